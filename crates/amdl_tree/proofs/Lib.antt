@@ -1,0 +1,5 @@
+pub mod DerivationLemmas
+pub mod LayoutLemmas
+mod NamePadding
+pub mod ReservedWords
+pub mod WordLemmas

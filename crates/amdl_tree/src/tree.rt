@@ -1,0 +1,42 @@
+use crate::list::List;
+use crate::name::Name;
+
+/// A network text as a tree: the network's name and its items in order.
+#[derive(Debug, Drop)]
+pub struct Tree {
+    pub name: Name,
+    pub items: List<Item>,
+}
+
+/// One item of a network text.
+#[derive(Debug, Drop)]
+pub enum Item {
+    /// A type with its values in order, of which there is at least one.
+    Kind { name: Name, values: List<Name> },
+    /// A field of packets, with the name of its type.
+    Field { name: Name, kind: Name },
+    /// A host.
+    Host { name: Name },
+    /// A link between two ends.
+    Link { one: End, two: End },
+    /// What a host may send: each packet that has these values in these fields. No equation at all stands for `true`.
+    Sends { host: Name, pattern: List<Equal> },
+    /// What must not be delivered to a host.
+    Forbid { host: Name, pattern: List<Equal> },
+}
+
+/// One end of a link.
+#[derive(Clone, Copy, PartialEq, Eq, Debug)]
+pub enum End {
+    /// A host has one end, named as the host is.
+    Host(Name),
+    /// A port of a box: the box, then the port.
+    Port(Name, Name),
+}
+
+/// One equation of a pattern.
+#[derive(Clone, Copy, PartialEq, Eq, Debug)]
+pub struct Equal {
+    pub field: Name,
+    pub value: Name,
+}
