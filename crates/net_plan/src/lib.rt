@@ -1,0 +1,10 @@
+#![tactic(auto)]
+
+mod fact;
+pub mod laws;
+mod network;
+mod plan;
+
+pub use fact::{Fact, Place, precedes};
+pub use network::Network;
+pub use plan::{FieldPlan, HostPlan, KindPlan, LinkPlan, Plan};
