@@ -1,0 +1,10 @@
+pub mod Faults
+pub mod Files
+pub mod Host
+pub mod Keeping
+pub mod Sink
+pub mod Streams
+pub mod Writing
+pub mod Failing
+pub mod Naming
+pub mod Memory

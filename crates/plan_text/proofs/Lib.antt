@@ -1,0 +1,6 @@
+mod AppendLemmas
+mod DigitLemmas
+mod LawLemmas
+mod ListedLemmas
+mod PlanLemmas
+mod TinyPlan

@@ -1,0 +1,49 @@
+-- What a printed text tells, and the report of the wire network by hand.
+use Rattle.std.specs.Prelude.{◌≡◌, ◌++◌, ℕ, List, [], ◌∷◌, codes}
+use Rattle.amdl_tree.specs.Word.{IsName}
+use Rattle.amdl_tree.specs.Layout.{line}
+use Rattle.net_plan.specs.declared.plan.Plan.{Plan}
+use Rattle.net_plan.specs.declared.fact.Fact.{Fact}
+use Rattle.net_plan.specs.declared.fact.Fact.TheVariants.{Out}
+use Rattle.net_plan.specs.Laws.{wire_plan}
+use Rattle.plan_text.specs.Text.{network_line, facts_line, report_of}
+use Rattle.plan_text.specs.Messages.{usage_text, refused_network, missing_text, fault_load_text}
+use Rattle.plan_text.specs.Prints.{BeginsWith, PrintsSafe}
+
+-- a report begins with `network`
+abbrev pub ReportBegins : Type 0
+ReportBegins = (plan : Plan) (facts bad : List Fact) → BeginsWith (report_of plan facts bad) (codes "network")
+
+-- however early a report is cut off, it prints SAFE only where no fact is bad
+abbrev pub SafeIsTold : Type 0
+SafeIsTold =
+    (plan : Plan) (facts bad : List Fact) (front rest : List ℕ) → IsName plan.name →
+    report_of plan facts bad ≡ front ++ rest → PrintsSafe front → bad ≡ []
+
+-- where no fact is bad the third line is SAFE, and the report prints that
+pub record SaysSafe (plan : Plan) (facts : List Fact) : Type 0 where
+  pub verdict : report_of plan facts [] ≡ line (network_line plan) ++ line (facts_line facts) ++ line (codes "SAFE")
+  pub prints : PrintsSafe (report_of plan facts [])
+
+abbrev pub SafeIsPrinted : Type 0
+SafeIsPrinted = (plan : Plan) (facts : List Fact) → IsName plan.name → SaysSafe plan facts
+
+-- no front of the text prints SAFE
+abbrev pub NeverPrintsSafe : List ℕ → Type 0
+NeverPrintsSafe text = (front rest : List ℕ) → text ≡ front ++ rest → ¬ PrintsSafe front
+
+-- neither usage nor a refusal prints SAFE, whatever stands in the reason or in the name
+pub record MessagesAreNotSafe : Type 0 where
+  pub usage : NeverPrintsSafe usage_text
+  pub refused : (reason : List ℕ) → NeverPrintsSafe (refused_network reason)
+  pub missing : (name : List ℕ) → NeverPrintsSafe (missing_text name)
+  pub fault_load : (name : List ℕ) → NeverPrintsSafe (fault_load_text name)
+
+-- of the two packets that p puts out on the wire, the second must not get to q
+abbrev pub WireReport : Type 0
+WireReport =
+    report_of wire_plan (Out 0 0 ∷ Out 0 1 ∷ []) (Out 0 1 ∷ [])
+    ≡ line (codes "network wire hosts 2 boxes 0 packets 4")
+    ++ line (codes "facts out 2 state 0 abort 0")
+    ++ line (codes "ALARM 1")
+    ++ line (codes "deliver q 1 from p : src = a, dst = b")

@@ -1,0 +1,5 @@
+pub mod Appends
+pub mod Laws
+pub mod Messages
+pub mod Prints
+pub mod Text

@@ -1,0 +1,27 @@
+//! Laws over the definitions, each the contract of a function that does nothing.
+ghost use Rattle.plan_text.specs.Laws.{ReportBegins, SafeIsTold, SafeIsPrinted, MessagesAreNotSafe, WireReport};
+
+/// A report begins with `network`.
+pub fn report_begins()
+    ensures { ReportBegins }
+{}
+
+/// However early the report of a network with a good name is cut off, it prints SAFE only where no fact is bad.
+pub fn safe_is_told()
+    ensures { SafeIsTold }
+{}
+
+/// The report of a network with a good name and no bad fact prints SAFE.
+pub fn safe_is_printed()
+    ensures { SafeIsPrinted }
+{}
+
+/// Usage and refusals never print SAFE, however early they are cut off.
+pub fn messages_are_not_safe()
+    ensures { MessagesAreNotSafe }
+{}
+
+/// The report of two hosts on a wire, as its text.
+pub fn report_of_wire()
+    ensures { WireReport }
+{}

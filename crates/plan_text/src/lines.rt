@@ -1,0 +1,129 @@
+ghost use Rattle.std.specs.Prelude.{◌≡◌, ◌<◌, ◌++◌, length, OnOk, OnErr};
+ghost use Rattle.plan_text.specs.Appends.{AppendsPart};
+ghost use Rattle.net_plan.specs.Plan.{packets_of, ends_of};
+ghost use Rattle.plan_text.specs.Text.{network_line, facts_line, count_of_outs, count_of_states, count_of_aborts, text_of_end, text_of_field, text_of_packet};
+
+use crate::append::put_all;
+use crate::digits::Digits;
+use amdl_tree::{Name, NoMemory};
+use net_plan::{Fact, Network, Place};
+
+/// Appends the network line, without its end.
+pub fn put_network_line(network: &Network, out: &mut Vec<u8>) -> Result<(), NoMemory>
+    ensures ok { OnOk result (out.new.items ≡ out.old.items ++ network_line network.now) }
+    ensures err { OnErr result (AppendsPart out.old.items out.new.items (network_line network.now)) }
+{
+    let name = network.name();
+    let hosts = Digits::of(network.hosts() as u64);
+    let boxes = Digits::of(network.boxes() as u64);
+    let packets = Digits::of(network.headers().count() as u64);
+    put_all(
+        out,
+        &[
+            b"network ",
+            name.bytes(),
+            b" hosts ",
+            hosts.bytes(),
+            b" boxes ",
+            boxes.bytes(),
+            b" packets ",
+            packets.bytes(),
+        ],
+    )
+}
+
+/// Appends the facts line, without its end. Linear in the facts.
+pub fn put_facts_line(facts: &[Fact], out: &mut Vec<u8>) -> Result<(), NoMemory>
+    ensures ok { OnOk result (out.new.items ≡ out.old.items ++ facts_line facts.now) }
+    ensures err { OnErr result (AppendsPart out.old.items out.new.items (facts_line facts.now)) }
+{
+    let outs = Digits::of(count_outs(facts) as u64);
+    let states = Digits::of(count_states(facts) as u64);
+    let aborts = Digits::of(count_aborts(facts) as u64);
+    put_all(
+        out,
+        &[
+            b"facts out ",
+            outs.bytes(),
+            b" state ",
+            states.bytes(),
+            b" abort ",
+            aborts.bytes(),
+        ],
+    )
+}
+
+fn count_outs(facts: &[Fact]) -> usize
+    ensures { result ≡ count_of_outs facts.now }
+{
+    facts
+        .iter()
+        .filter(|fact| matches!(fact, Fact::Out(..)))
+        .count()
+}
+
+fn count_states(facts: &[Fact]) -> usize
+    ensures { result ≡ count_of_states facts.now }
+{
+    facts
+        .iter()
+        .filter(|fact| matches!(fact, Fact::State(..)))
+        .count()
+}
+
+fn count_aborts(facts: &[Fact]) -> usize
+    ensures { result ≡ count_of_aborts facts.now }
+{
+    facts
+        .iter()
+        .filter(|fact| matches!(fact, Fact::Abort(..)))
+        .count()
+}
+
+/// Appends the name of an end.
+pub fn put_end(network: &Network, end: u32, out: &mut Vec<u8>) -> Result<(), NoMemory>
+    requires { end < ends_of network.now }
+    ensures ok { OnOk result (out.new.items ≡ out.old.items ++ text_of_end network.now end) }
+    ensures err { OnErr result (AppendsPart out.old.items out.new.items (text_of_end network.now end)) }
+{
+    let name = end_name(network, end);
+    put_all(out, &[name.bytes()])
+}
+
+/// The name of an end.
+pub(crate) fn end_name(network: &Network, end: u32) -> Name
+    requires { end < ends_of network.now }
+    ensures { result ≡ text_of_end network.now end }
+{
+    match network.place(end) {
+        Place::Host(host) => network.host_name(host),
+        Place::Port(..) => unreachable!(),
+    }
+}
+
+/// Appends each field of a packet with its value. Linear in the fields, each of which takes time in their number.
+pub fn put_packet(network: &Network, packet: u32, out: &mut Vec<u8>) -> Result<(), NoMemory>
+    requires { packet < packets_of network.now }
+    ensures ok { OnOk result (out.new.items ≡ out.old.items ++ text_of_packet network.now packet) }
+    ensures err { OnErr result (AppendsPart out.old.items out.new.items (text_of_packet network.now packet)) }
+{
+    let fields = network.headers().fields() as u32;
+    put_field(network, packet, 0, out)?;
+    for k in 1..fields {
+        put_all(out, &[b", "])?;
+        put_field(network, packet, k, out)?;
+    }
+    Ok(())
+}
+
+fn put_field(network: &Network, packet: u32, k: u32, out: &mut Vec<u8>) -> Result<(), NoMemory>
+    requires packet { packet < packets_of network.now }
+    requires in_range { k < length network.now.fields }
+    ensures ok { OnOk result (out.new.items ≡ out.old.items ++ text_of_field network.now packet k) }
+    ensures err { OnErr result (AppendsPart out.old.items out.new.items (text_of_field network.now packet k)) }
+{
+    let name = network.field_name(k);
+    let kind = network.kind_of_field(k);
+    let value = network.value_name(kind, network.headers().field(packet, k as usize));
+    put_all(out, &[name.bytes(), b" = ", value.bytes()])
+}
