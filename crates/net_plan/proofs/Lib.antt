@@ -1,2 +1,3 @@
 mod Linked
 pub mod Rising
+mod RunLemmas

@@ -1,6 +1,9 @@
+pub mod Covers
 pub mod Fact
 pub mod Follows
 pub mod Laws
 pub mod Net
 pub mod Plan
 pub mod Sound
+pub mod RunLaws
+pub mod World

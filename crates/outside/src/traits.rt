@@ -20,7 +20,7 @@ pub enum LoadFault {
     Missing,
     /// The file is longer than the limit.
     TooLong,
-    /// There was no memory. It goes before every other answer.
+    /// There was no memory. It may come in place of every other answer.
     NoMemory,
 }
 

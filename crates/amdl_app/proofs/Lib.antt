@@ -1,0 +1,5 @@
+mod AnswerLemmas
+mod Listing
+mod PromiseLemmas
+mod SafeLemmas
+mod Words

@@ -1,0 +1,9 @@
+pub mod Analysis
+pub mod Answer
+pub mod Answered
+pub mod Asked
+pub mod Command
+pub mod Outcome
+pub mod Promises
+pub mod Reply
+pub mod Report

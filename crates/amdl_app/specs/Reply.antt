@@ -1,0 +1,12 @@
+-- What a call of the program answers: a status, a text, and perhaps one file that it stores.
+use Rattle.std.specs.Prelude.{ℕ, List, Option, None}
+
+pub record Reply : Type 0 where
+  pub status : ℕ
+  pub text : List ℕ
+  -- the name and the bytes of the file
+  pub stored : Option (List ℕ × List ℕ)
+
+-- a reply that stores nothing
+abbrev pub says : ℕ → List ℕ → Reply
+says status text = record { status = status; text = text; stored = None }

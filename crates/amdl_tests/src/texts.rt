@@ -1,0 +1,53 @@
+//! Network texts, and calls of the program on them.
+use amdl_app::run;
+use outside::{Files, Sink, SureFiles, SureSink};
+use std::alloc::{AllocError, Global};
+use std::test::Fail;
+
+pub const WIRE: &str =
+    "network wire;\ntype Addr = {a, b};\nfield src : Addr;\nfield dst : Addr;\nhost p;\nhost q;\nlink p -- q;\nsends p : src = a;\nforbid q : src = a, dst = b;\n";
+
+pub const SAFE_WIRE: &str =
+    "network wire;\ntype Addr = {a, b};\nfield src : Addr;\nfield dst : Addr;\nhost p;\nhost q;\nlink p -- q;\nsends p : src = a;\nforbid q : src = b;\n";
+
+/// A network of this many values and fields, in which each packet is sent and forbidden.
+pub fn full(alloc: Global, values: u32, fields: u32) -> Result<String, AllocError> {
+    let mut text = String::from_str(alloc, "network full;\ntype T = {v0")?;
+    for value in 1..values {
+        text.push_str(format!(in alloc; ", v{value}")?.as_str())?;
+    }
+    text.push_str("};\n")?;
+    for field in 0..fields {
+        text.push_str(format!(in alloc; "field f{field} : T;\n")?.as_str())?;
+    }
+    text.push_str("host p;\nhost q;\nlink p -- q;\nsends p : true;\nforbid q : true;\n")?;
+    Ok(text)
+}
+
+/// The words `analyse NAME`.
+pub fn analyse_words(alloc: Global, name: &str) -> Result<Vec<String>, AllocError> {
+    let mut words = Vec::new(alloc);
+    words.push(String::from_str(alloc, "analyse")?)?;
+    words.push(String::from_str(alloc, name)?)?;
+    Ok(words)
+}
+
+/// The status of `analyse NAME`.
+pub fn analyse<F: Files, S: Sink>(
+    alloc: Global,
+    name: &str,
+    files: &mut F,
+    out: &mut S,
+) -> Result<u8, AllocError> {
+    let words = analyse_words(alloc, name)?;
+    Ok(run(alloc, words.as_slice(), files, out))
+}
+
+/// The status and the sink of the analysis of one text.
+pub fn analysis_of(alloc: Global, text: &str) -> Result<(u8, SureSink), Fail> {
+    let mut files = SureFiles::new(alloc);
+    files.keep("net", text.as_bytes())?;
+    let mut out = SureSink::new(alloc);
+    let status = analyse(alloc, "net", &mut files, &mut out)?;
+    Ok((status, out))
+}

@@ -1,0 +1,5 @@
+mod NameLemmas
+mod ItemLemmas
+mod NetLemmas
+mod SoundLemmas
+mod ExampleLemmas

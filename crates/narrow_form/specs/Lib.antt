@@ -1,0 +1,5 @@
+pub mod Example
+pub mod Laws
+pub mod Leading
+pub mod NarrowForm
+pub mod NarrowPlan
