@@ -1,6 +1,6 @@
 -- Words and files have one answer.
 use Rattle.std.proofs.Common.{◌≡◌, ℕ, List, [], ◌∷◌, Option, Some, None, sym, ap, subst, ◌∙◌, arith, codes}
-use Rattle.amdl_tree.specs.Laws.{LayoutIsOneToOne}
+use Rattle.narrow_form.specs.Laws.{NarrowLayoutIsOneToOne}
 use Rattle.amdl_tree.specs.Layout.{layout_of_tree}
 use Rattle.amdl_tree.specs.declared.tree.Tree.{Tree}
 use Rattle.net_plan.specs.declared.plan.Plan.{Plan}
@@ -24,9 +24,9 @@ network_is_asked words one two first second = let e : codes "analyse" ∷ one �
 abbrev report_reply : Plan → List Fact → List Fact → Reply
 report_reply plan facts bad = says (status_of bad) (report_of plan facts bad)
 
-module _ (one_layout : LayoutIsOneToOne) (one_rising : RisingIsUnique) (one_least : LeastIsUnique) where
+module _ (one_layout : NarrowLayoutIsOneToOne) (one_rising : RisingIsUnique) (one_least : LeastIsUnique) where
   pub narrow_is_one : (t u : Tree) → IsNarrow t → IsNarrow u → layout_of_tree t ≡ layout_of_tree u → t ≡ u
-  narrow_is_one t u one two same = one_layout t u one.built two.built same
+  narrow_is_one t u one two same = one_layout t u one two same
 
   report_is_one : (plan : Plan) (one two : Reply) → IsReport plan one → IsReport plan two → one ≡ two
   report_is_one plan one two first second =

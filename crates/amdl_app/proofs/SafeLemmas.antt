@@ -4,7 +4,7 @@ use Rattle.std.specs.List.{Contains}
 use Rattle.std.specs.Io.KnownBytes.{append_known}
 use Rattle.std.proofs.lemmas.List.{append-nil, append_cancel_left}
 use Rattle.std.proofs.lemmas.List.Elements.{Contains-append_left, Contains-push}
-use Rattle.amdl_tree.specs.Laws.{LayoutIsOneToOne}
+use Rattle.narrow_form.specs.Laws.{NarrowLayoutIsOneToOne}
 use Rattle.amdl_tree.specs.Layout.{layout_of_tree}
 use Rattle.amdl_tree.specs.declared.tree.Tree.{Tree}
 use Rattle.net_plan.specs.declared.plan.Plan.{Plan}
@@ -140,9 +140,9 @@ module _ (words : List (List ℕ)) (told : Option FileMap) (faults faults_now : 
       said_safe (inl zero') called = zero_called zero' called
       said_safe (inr some) called = printed some.0 some.1 some.2 some.3 some.4 called
 
-      module _ (one_layout : LayoutIsOneToOne) where
+      module _ (one_layout : NarrowLayoutIsOneToOne) where
         one_tree : (t u : Tree) → IsNarrow t → IsNarrow u → layout_of_tree t ≡ layout_of_tree u → t ≡ u
-        one_tree t u one two same = one_layout t u one.built two.built same
+        one_tree t u one two same = one_layout t u one two same
 
         pub safe_only : Called → SafeOnly words told written now status
         safe_only called network asks says' files is =

@@ -10,7 +10,8 @@ use crate::analyse::analyse;
 use crate::answer::{Answer, usage_answer};
 use crate::command::{Command, command_of};
 use crate::output::put_text;
-use amdl_tree::{NoMemory, layout_is_one_to_one};
+use amdl_tree::NoMemory;
+use narrow_form::narrow_layout_is_one_to_one;
 use net_plan::run_laws::safe_network_runs_safely;
 use outside::{Files, Sink, SinkFault};
 use plan_text::laws::{messages_are_not_safe, safe_is_told};
@@ -48,7 +49,7 @@ pub fn run<F: Files, S: Sink>(alloc: Global, words: &[String], files: &mut F, ou
     ensures safe_runs { SafeRuns (spelled words.now) (F.told files.old) (S.written out.old) (S.written out.new) result }
     ensures safe_if { SafeIf (spelled words.now) (F.told files.old) result }
 {
-    layout_is_one_to_one();
+    narrow_layout_is_one_to_one();
     safe_is_told();
     messages_are_not_safe();
     safe_network_runs_safely();

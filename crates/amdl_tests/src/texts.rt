@@ -4,14 +4,14 @@ use outside::{Files, Sink, SureFiles, SureSink};
 use std::alloc::{AllocError, Global};
 use std::test::Fail;
 
-pub const WIRE: &str =
+pub(crate) const WIRE: &str =
     "network wire;\ntype Addr = {a, b};\nfield src : Addr;\nfield dst : Addr;\nhost p;\nhost q;\nlink p -- q;\nsends p : src = a;\nforbid q : src = a, dst = b;\n";
 
-pub const SAFE_WIRE: &str =
+pub(crate) const SAFE_WIRE: &str =
     "network wire;\ntype Addr = {a, b};\nfield src : Addr;\nfield dst : Addr;\nhost p;\nhost q;\nlink p -- q;\nsends p : src = a;\nforbid q : src = b;\n";
 
 /// A network of this many values and fields, in which each packet is sent and forbidden.
-pub fn full(alloc: Global, values: u32, fields: u32) -> Result<String, AllocError> {
+pub(crate) fn full(alloc: Global, values: u32, fields: u32) -> Result<String, AllocError> {
     let mut text = String::from_str(alloc, "network full;\ntype T = {v0")?;
     for value in 1..values {
         text.push_str(format!(in alloc; ", v{value}")?.as_str())?;
@@ -25,7 +25,7 @@ pub fn full(alloc: Global, values: u32, fields: u32) -> Result<String, AllocErro
 }
 
 /// The words `analyse NAME`.
-pub fn analyse_words(alloc: Global, name: &str) -> Result<Vec<String>, AllocError> {
+pub(crate) fn analyse_words(alloc: Global, name: &str) -> Result<Vec<String>, AllocError> {
     let mut words = Vec::new(alloc);
     words.push(String::from_str(alloc, "analyse")?)?;
     words.push(String::from_str(alloc, name)?)?;
@@ -33,7 +33,7 @@ pub fn analyse_words(alloc: Global, name: &str) -> Result<Vec<String>, AllocErro
 }
 
 /// The status of `analyse NAME`.
-pub fn analyse<F: Files, S: Sink>(
+pub(crate) fn analyse<F: Files, S: Sink>(
     alloc: Global,
     name: &str,
     files: &mut F,
@@ -44,7 +44,7 @@ pub fn analyse<F: Files, S: Sink>(
 }
 
 /// The status and the sink of the analysis of one text.
-pub fn analysis_of(alloc: Global, text: &str) -> Result<(u8, SureSink), Fail> {
+pub(crate) fn analysis_of(alloc: Global, text: &str) -> Result<(u8, SureSink), Fail> {
     let mut files = SureFiles::new(alloc);
     files.keep("net", text.as_bytes())?;
     let mut out = SureSink::new(alloc);

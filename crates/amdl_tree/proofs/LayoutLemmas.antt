@@ -5,13 +5,13 @@ use Rattle.std.proofs.lemmas.List.{map-id, append_cancel_left}
 use Rattle.std.proofs.lemmas.List.Elements.{All-head, All-tail}
 use Rattle.amdl_tree.specs.Word.{IsName, EndsWord, goes_on_with_word}
 use Rattle.amdl_tree.specs.Layout.{listed, layout_of_equal, layout_of_pattern, layout_of_end, layout_of_item, layout_of_tree, line}
-use Rattle.amdl_tree.specs.WellBuilt.{IsBuiltEqual, IsBuiltEnd, IsBuiltItem, IsWellBuilt}
+use Rattle.amdl_tree.specs.WellBuilt.{IsBuiltEqual, IsBuiltEnd, IsBuiltItem, IsWellBuilt, IsFlatItem, IsFlat}
 use Rattle.amdl_tree.specs.declared.reserved.Reserved.TheVariants.{True}
 use Rattle.amdl_tree.specs.declared.tree.Equal.{Equal}
 use Rattle.amdl_tree.specs.declared.tree.End.{End}
 use Rattle.amdl_tree.specs.declared.tree.End.TheVariants.{Host as AtHost, Port as AtPort}
 use Rattle.amdl_tree.specs.declared.tree.Item.{Item}
-use Rattle.amdl_tree.specs.declared.tree.Item.TheVariants.{Kind, Field, Host, Link, Sends, Forbid}
+use Rattle.amdl_tree.specs.declared.tree.Item.TheVariants.{Kind, Field, Class as OfClass, Host, Instance, Link, Sends, Forbid}
 use Rattle.amdl_tree.specs.declared.tree.Tree.{Tree}
 use Rattle.amdl_tree.proofs.WordLemmas.{words_split}
 
@@ -192,14 +192,18 @@ front [] = 0
 front (first ∷ []) = first
 front (first ∷ second ∷ others) = 256 * first + second
 
-pub items_split : (x y : Item) (a b : List ℕ) → IsBuiltItem x → IsBuiltItem y → line (layout_of_item x) ++ a ≡ line (layout_of_item y) ++ b → (x ≡ y) × (a ≡ b)
-items_split (Kind n xs) (Kind m ys) a b p q e = kinds_split n m xs ys a b p q e
-items_split (Field n k) (Field m l) a b p q e = fields_split n m k l a b p q e
-items_split (Host n) (Host m) a b p q e = hosts_split n m a b p q e
-items_split (Link x u) (Link y v) a b p q e = links_split x y u v a b p q e
-items_split (Sends n xs) (Sends m ys) a b p q e = sends_split n m xs ys a b p q e
-items_split (Forbid n xs) (Forbid m ys) a b p q e = forbids_split n m xs ys a b p q e
-items_split x y a b _ _ e = absurd (omega (arith, ap front e))
+pub items_split : (x y : Item) (a b : List ℕ) → IsFlatItem x → IsFlatItem y → IsBuiltItem x → IsBuiltItem y → line (layout_of_item x) ++ a ≡ line (layout_of_item y) ++ b → (x ≡ y) × (a ≡ b)
+items_split (OfClass c) y a b f g p q e = absurd f
+items_split (Instance n c xs) y a b f g p q e = absurd f
+items_split x (OfClass c) a b f g p q e = absurd g
+items_split x (Instance n c xs) a b f g p q e = absurd g
+items_split (Kind n xs) (Kind m ys) a b f g p q e = kinds_split n m xs ys a b p q e
+items_split (Field n k) (Field m l) a b f g p q e = fields_split n m k l a b p q e
+items_split (Host n) (Host m) a b f g p q e = hosts_split n m a b p q e
+items_split (Link x u) (Link y v) a b f g p q e = links_split x y u v a b p q e
+items_split (Sends n xs) (Sends m ys) a b f g p q e = sends_split n m xs ys a b p q e
+items_split (Forbid n xs) (Forbid m ys) a b f g p q e = forbids_split n m xs ys a b p q e
+items_split x y a b _ _ _ _ e = absurd (omega (arith, ap front e))
 
 -- a line is not empty
 line_not_empty : (text rest : List ℕ) → line text ++ rest ≡ [] → ⊥
@@ -209,18 +213,18 @@ line_not_empty (byte ∷ bytes) rest e = cc
 abbrev lines_of_items : List Item → List ℕ
 lines_of_items items = flat_map (λ item. line (layout_of_item item)) items
 
-item_lists_split : (xs ys : List Item) → All IsBuiltItem xs → All IsBuiltItem ys → lines_of_items xs ≡ lines_of_items ys → xs ≡ ys
-item_lists_split [] [] p q e = refl
-item_lists_split [] (y ∷ ys) p q e = absurd (line_not_empty (layout_of_item y) (lines_of_items ys) (sym e))
-item_lists_split (x ∷ xs) [] p q e = absurd (line_not_empty (layout_of_item x) (lines_of_items xs) e)
-item_lists_split (x ∷ xs) (y ∷ ys) p q e =
-    let heads = items_split x y (lines_of_items xs) (lines_of_items ys) (All-head IsBuiltItem x xs p) (All-head IsBuiltItem y ys q) e in
-    both (λ item items. item ∷ items) heads.0 (item_lists_split xs ys (All-tail IsBuiltItem x xs p) (All-tail IsBuiltItem y ys q) heads.1)
+item_lists_split : (xs ys : List Item) → All IsFlatItem xs → All IsFlatItem ys → All IsBuiltItem xs → All IsBuiltItem ys → lines_of_items xs ≡ lines_of_items ys → xs ≡ ys
+item_lists_split [] [] f g p q e = refl
+item_lists_split [] (y ∷ ys) f g p q e = absurd (line_not_empty (layout_of_item y) (lines_of_items ys) (sym e))
+item_lists_split (x ∷ xs) [] f g p q e = absurd (line_not_empty (layout_of_item x) (lines_of_items xs) e)
+item_lists_split (x ∷ xs) (y ∷ ys) f g p q e =
+    let heads = items_split x y (lines_of_items xs) (lines_of_items ys) (All-head IsFlatItem x xs f) (All-head IsFlatItem y ys g) (All-head IsBuiltItem x xs p) (All-head IsBuiltItem y ys q) e in
+    both (λ item items. item ∷ items) heads.0 (item_lists_split xs ys (All-tail IsFlatItem x xs f) (All-tail IsFlatItem y ys g) (All-tail IsBuiltItem x xs p) (All-tail IsBuiltItem y ys q) heads.1)
 
-pub trees_alike : (t u : Tree) → IsWellBuilt t → IsWellBuilt u → layout_of_tree t ≡ layout_of_tree u → t ≡ u
-trees_alike t u p q e =
+pub trees_alike : (t u : Tree) → IsFlat t → IsFlat u → IsWellBuilt t → IsWellBuilt u → layout_of_tree t ≡ layout_of_tree u → t ≡ u
+trees_alike t u f g p q e =
     let whole : codes "network " ++ (t.name ++ closed (lines_of_items t.items)) ≡ codes "network " ++ (u.name ++ closed (lines_of_items u.items)) = simp append_assoc at e in
     let names = names_split t.name u.name (closed (lines_of_items t.items)) (closed (lines_of_items u.items)) p.named q.named refl refl (append_cancel_left (codes "network ") _ _ whole) in
-    let items = item_lists_split t.items u.items p.items q.items (not_closed (lines_of_items t.items) (lines_of_items u.items) names.1) in
+    let items = item_lists_split t.items u.items f g p.items q.items (not_closed (lines_of_items t.items) (lines_of_items u.items) names.1) in
     let made : List ℕ → List Item → Tree = λ name its. record { name = name; items = its } in
     both made names.0 items

@@ -1,6 +1,10 @@
 -- A small tree and its text.
 use Rattle.std.specs.Prelude.{ℕ, List, [], ◌∷◌, ◌++◌, codes}
 use Rattle.amdl_tree.specs.Layout.{line}
+use Rattle.amdl_tree.specs.Spelling.{word, key, mark}
+use Rattle.amdl_tree.specs.declared.token.Token.{Token}
+use Rattle.amdl_tree.specs.declared.token.Sign.TheVariants as signs
+use Rattle.amdl_tree.specs.declared.reserved.Reserved.TheVariants as words
 use Rattle.amdl_tree.specs.declared.tree.Equal.{Equal}
 use Rattle.amdl_tree.specs.declared.tree.End.TheVariants.{Host as AtHost}
 use Rattle.amdl_tree.specs.declared.tree.Item.TheVariants.{Kind, Field, Host, Link, Sends, Forbid}
@@ -37,3 +41,20 @@ text_of_wire =
     ++ line (codes "link p -- q;")
     ++ line (codes "sends p : src = a;")
     ++ line (codes "forbid q : src = a, dst = b;")
+
+abbrev pub tokens_of_wire : List Token
+tokens_of_wire =
+    key words.Network ++ word (codes "wire") ++ mark signs.Semicolon
+    ++ key words.Kind ++ word (codes "Addr") ++ mark signs.Equals ++ mark signs.OpenBrace ++ word (codes "a") ++ mark signs.Comma ++ word (codes "b") ++ mark signs.CloseBrace ++ mark signs.Semicolon
+    ++ key words.Field ++ word (codes "src") ++ mark signs.Colon ++ word (codes "Addr") ++ mark signs.Semicolon
+    ++ key words.Field ++ word (codes "dst") ++ mark signs.Colon ++ word (codes "Addr") ++ mark signs.Semicolon
+    ++ key words.Host ++ word (codes "p") ++ mark signs.Semicolon
+    ++ key words.Host ++ word (codes "q") ++ mark signs.Semicolon
+    ++ key words.Link ++ word (codes "p") ++ mark signs.Dashes ++ word (codes "q") ++ mark signs.Semicolon
+    ++ key words.Sends ++ word (codes "p") ++ mark signs.Colon ++ word (codes "src") ++ mark signs.Equals ++ word (codes "a") ++ mark signs.Semicolon
+    ++ key words.Forbid ++ word (codes "q") ++ mark signs.Colon ++ word (codes "src") ++ mark signs.Equals ++ word (codes "a")
+    ++ mark signs.Comma ++ word (codes "dst") ++ mark signs.Equals ++ word (codes "b") ++ mark signs.Semicolon
+
+-- a tree that no text spells: a type without values
+abbrev pub valueless : Tree
+valueless = record { name = codes "none"; items = Kind (codes "Addr") [] ∷ [] }

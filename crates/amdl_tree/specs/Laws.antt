@@ -1,16 +1,58 @@
 -- Laws over the definitions.
-use Rattle.std.specs.Prelude.{◌≡◌, Bool, true, ℕ, List, [], ◌++◌}
+use Rattle.std.specs.Prelude.{◌≡◌, ◌↔◌, ◌≤◌, Bool, true, ℕ, List, [], ◌++◌}
 use Rattle.std.specs.List.{All}
 use Rattle.amdl_tree.specs.Word.{IsWord, EndsWord, spelling_of_reserved}
 use Rattle.amdl_tree.specs.Layout.{layout_of_tree}
-use Rattle.amdl_tree.specs.WellBuilt.{IsWellBuilt}
+use Rattle.amdl_tree.specs.WellBuilt.{OneOrMore, IsBuiltEqual, IsBuiltEnd, LitLayer, GuardLayer, StmtLayer, AlternativeLayer, IsBuiltLit, IsBuiltGuard, IsBuiltStmt, IsBuiltAlternative, IsBuiltClass, IsBuiltItem, ItemFits, IsWellBuilt, IsShaped, IsFlat}
+use Rattle.amdl_tree.specs.Spelling.{spell_of_lit, spell_of_guard, spell_of_statement, spell_of_statements, spell_of_class, spell_of_pattern, spell_of_end, spell_of_item, spell}
+use Rattle.amdl_tree.specs.GoesOn.{Once, never, goes_guard, goes_pattern, goes_end, starts_statement, starts_item}
+use Rattle.amdl_tree.specs.Depth.{depth_of_item, depth_of_tree}
 use Rattle.amdl_tree.specs.Derivation.{IsDerivable}
 use Rattle.amdl_tree.specs.declared.reserved.Reserved.{Reserved}
+use Rattle.amdl_tree.specs.declared.guard.Guard.{Guard}
+use Rattle.amdl_tree.specs.declared.guard.Lit.{Lit}
+use Rattle.amdl_tree.specs.declared.guard.Lit.TheViews.{out-Lit}
+use Rattle.amdl_tree.specs.declared.statement.Alternative.{Alternative}
+use Rattle.amdl_tree.specs.declared.statement.Stmt.{Stmt}
+use Rattle.amdl_tree.specs.declared.statement.Stmt.TheViews.{out-Stmt}
+use Rattle.amdl_tree.specs.declared.tree.Item.{Item}
 use Rattle.amdl_tree.specs.declared.tree.Tree.{Tree}
 
--- no two trees that texts can spell have one layout
+-- no two trees that texts can spell have one layout, as far as they have no boxes and no classes
 abbrev pub LayoutIsOneToOne : Type 0
-LayoutIsOneToOne = (t u : Tree) → IsWellBuilt t → IsWellBuilt u → layout_of_tree t ≡ layout_of_tree u → t ≡ u
+LayoutIsOneToOne = (t u : Tree) → IsFlat t → IsFlat u → IsWellBuilt t → IsWellBuilt u → layout_of_tree t ≡ layout_of_tree u → t ≡ u
+
+-- no two trees that texts can spell have one spelling
+abbrev pub SpellingIsOneToOne : Type 0
+SpellingIsOneToOne = (t u : Tree) → IsWellBuilt t → IsWellBuilt u → spell t ≡ spell u → t ≡ u
+
+-- A guard is well built exactly where it is made of one or more lists of one or more well-built literals; a literal, a
+-- statement and an alternative exactly where their parts are.
+pub record BuiltByParts : Type 0 where
+  pub guard : (guard : Guard) → IsBuiltGuard guard ↔ GuardLayer IsBuiltLit guard
+  pub lit : (lit : Lit) → IsBuiltLit lit ↔ LitLayer IsBuiltLit IsBuiltGuard (out-Lit lit)
+  pub alternative : (alternative : Alternative) → IsBuiltAlternative alternative ↔ AlternativeLayer IsBuiltGuard IsBuiltStmt alternative
+  pub stmt : (stmt : Stmt) → IsBuiltStmt stmt ↔ StmtLayer (OneOrMore IsBuiltAlternative) (All IsBuiltStmt) (out-Stmt stmt)
+
+-- a token list begins with at most one well-built part of each kind, where what follows does not go on with the part
+pub record PartsAreSpelledOnce : Type 0 where
+  pub lit : Once spell_of_lit IsBuiltLit (λ lit. never)
+  pub guard : Once spell_of_guard IsBuiltGuard (λ guard. goes_guard)
+  pub stmt : Once spell_of_statement IsBuiltStmt (λ stmt. never)
+  pub statements : Once spell_of_statements (All IsBuiltStmt) (λ body. starts_statement)
+  pub class : Once spell_of_class IsBuiltClass (λ class. never)
+  pub pattern : Once spell_of_pattern (All IsBuiltEqual) goes_pattern
+  pub end : Once spell_of_end IsBuiltEnd goes_end
+  pub item : Once spell_of_item IsBuiltItem (λ item. never)
+  pub tree : Once spell IsWellBuilt (λ tree. starts_item)
+
+-- an item fits within n levels exactly where it is well built and its depth is at most n
+abbrev pub FitsByDepth : Type 0
+FitsByDepth = (n : ℕ) (item : Item) → ItemFits n item ↔ (IsBuiltItem item × (depth_of_item item ≤ n))
+
+-- a tree is shaped exactly where it is well built and its depth is at most 32
+abbrev pub ShapedByDepth : Type 0
+ShapedByDepth = (tree : Tree) → IsShaped tree ↔ (IsWellBuilt tree × (depth_of_tree tree ≤ 32))
 
 -- a text begins with at most one word that ends there
 abbrev pub WordsSplit : Type 0

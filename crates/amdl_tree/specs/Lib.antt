@@ -1,8 +1,13 @@
+pub mod Depth
 pub mod Derivation
 pub mod Example
+pub mod ExampleClass
 pub mod formers
+pub mod GoesOn
 pub mod Laws
 pub mod Layout
 pub mod NameBytes
+pub mod Spelling
+pub mod Token
 pub mod WellBuilt
 pub mod Word

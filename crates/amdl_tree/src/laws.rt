@@ -1,12 +1,37 @@
 //! Laws over the definitions, each the contract of a function that does nothing.
 ghost use Rattle.std.specs.Prelude.{◌≡◌};
-ghost use Rattle.amdl_tree.specs.Laws.{LayoutIsOneToOne, WordsSplit, ReservedDiffer, DerivableIsLeast};
+ghost use Rattle.amdl_tree.specs.Laws.{LayoutIsOneToOne, SpellingIsOneToOne, PartsAreSpelledOnce, BuiltByParts, FitsByDepth, ShapedByDepth, WordsSplit, ReservedDiffer, DerivableIsLeast};
 ghost use Rattle.amdl_tree.specs.Layout.{layout_of_tree};
-ghost use Rattle.amdl_tree.specs.Example.{wire, text_of_wire};
+ghost use Rattle.amdl_tree.specs.Spelling.{spell};
+ghost use Rattle.amdl_tree.specs.WellBuilt.{IsWellBuilt};
+ghost use Rattle.amdl_tree.specs.Depth.{depth_of_tree};
+ghost use Rattle.amdl_tree.specs.Example.{wire, text_of_wire, tokens_of_wire, valueless};
+ghost use Rattle.amdl_tree.specs.ExampleClass.{gated, text_of_gated, tokens_of_gated};
 
-/// No two trees that texts can spell have one layout.
+/// No two trees without classes and boxes that texts can spell have one layout.
 pub fn layout_is_one_to_one()
     ensures { LayoutIsOneToOne }
+{}
+
+/// No two trees that texts can spell have one spelling.
+pub fn spelling_is_one_to_one()
+    ensures { SpellingIsOneToOne }
+{}
+
+/// A token list begins with at most one part of each kind, so that what stands behind it is settled too.
+pub fn parts_are_spelled_once()
+    ensures { PartsAreSpelledOnce }
+{}
+
+/// What it is to be well built, by the parts of a part.
+pub fn built_by_parts()
+    ensures { BuiltByParts }
+{}
+
+/// What a bound on the depth asks, of an item and of a tree: that it is well built and as deep at most.
+pub fn shape_is_by_depth()
+    ensures item { FitsByDepth }
+    ensures tree { ShapedByDepth }
 {}
 
 /// A text begins with at most one word that ends there, so that what stands behind it is settled too.
@@ -24,7 +49,24 @@ pub fn derivable_is_least<A>()
     ensures { DerivableIsLeast A }
 {}
 
-/// The layout of a small tree with each kind of item, as its text.
+/// The layout of a small tree with each kind of item but classes and boxes, as its text.
 pub fn layout_of_wire()
     ensures { layout_of_tree wire ≡ text_of_wire }
+{}
+
+/// The spelling of a small tree with each kind of item but classes and boxes.
+pub fn spelling_of_wire()
+    ensures { spell wire ≡ tokens_of_wire }
+{}
+
+/// A class with each kind of statement and literal, and boxes of it: the spelling, the layout and the depth.
+pub fn example_with_class()
+    ensures spelled { spell gated ≡ tokens_of_gated }
+    ensures laid { layout_of_tree gated ≡ text_of_gated }
+    ensures deep { depth_of_tree gated ≡ 3 }
+{}
+
+/// A type without values stands in no tree that a text can spell.
+pub fn valueless_is_not_built()
+    ensures { IsWellBuilt valueless → ⊥ }
 {}

@@ -1,19 +1,31 @@
-//! Names, lists and the tree of a network text, with the canonical layout of its parts.
+//! Names, tokens, lists and the tree of a network text, with its spelling in tokens and its canonical layout.
 #![tactic(auto)]
 
+mod boxed;
+mod class;
+mod guard;
 mod laws;
 mod list;
 mod name;
 mod reserved;
+mod statement;
+mod token;
 mod tree;
 
+pub use boxed::Boxed;
+pub use class::{Class, Handler, Relation};
+pub use guard::{Atom, Guard, Lit};
 pub use laws::{
-    derivable_is_least, layout_is_one_to_one, layout_of_wire, reserved_words_differ, words_split,
+    built_by_parts, derivable_is_least, example_with_class, layout_is_one_to_one, layout_of_wire,
+    parts_are_spelled_once, reserved_words_differ, shape_is_by_depth, spelling_is_one_to_one,
+    spelling_of_wire, valueless_is_not_built, words_split,
 };
 pub use list::{List, NoMemory};
 pub use name::{Name, goes_on_with_a_word, starts_a_word};
 pub use reserved::Reserved;
-pub use tree::{End, Equal, Item, Tree};
+pub use statement::{Alternative, Stmt};
+pub use token::{Lexed, Sign, Token};
+pub use tree::{End, Equal, Item, Tree, same_pattern};
 
 #[cfg(test)]
 mod tests {
@@ -47,6 +59,19 @@ mod tests {
         assert_eq!(rt; list.remove(0), 1);
         assert_eq!(rt; list.replace(1, 4), 3);
         assert_eq!(rt; list.as_slice(), [2, 4].as_slice());
+        Ok(())
+    }
+
+    #[test]
+    fn guards_compare(rt: HostRuntime) -> Result<(), NoMemory> {
+        let denied = Lit::Not(Boxed::new(rt.alloc(), Lit::True)?);
+        let doubly = Lit::Not(Boxed::new(
+            rt.alloc(),
+            Lit::Not(Boxed::new(rt.alloc(), Lit::True)?),
+        )?);
+        assert!(rt; denied == Lit::Not(Boxed::new(rt.alloc(), Lit::True)?));
+        assert!(rt; denied != doubly);
+        assert!(rt; doubly != Lit::True);
         Ok(())
     }
 }

@@ -26,6 +26,24 @@ impl<T> Model for List<T> {
     ghost view = { λ list. list.items.items };
 }
 
+impl<T: PartialEq> PartialEq for List<T> {
+    ghost use Rattle.std.specs.Cmp.Lexicographic.{pointwise, lists_per};
+
+    ghost eq = { λ list other. pointwise T.eq list other };
+
+    ghost laws = { lists_per T.laws };
+
+    fn eq(&self, other: &List<T>) -> bool {
+        self.as_slice() == other.as_slice()
+    }
+}
+
+impl<T: Eq> Eq for List<T> {
+    ghost use Rattle.std.specs.Cmp.Lexicographic.{lists_equiv};
+
+    ghost laws = { lists_equiv T.Eq.laws };
+}
+
 impl<T> List<T> {
     /// The empty list, which takes no memory.
     pub fn new(alloc: Global) -> List<T>

@@ -5,9 +5,10 @@ use Rattle.std.proofs.lemmas.List.{append_assoc}
 use Rattle.amdl_tree.specs.declared.tree.End.{End}
 use Rattle.amdl_tree.specs.declared.tree.Equal.{Equal}
 use Rattle.amdl_tree.specs.declared.tree.Item.{Item}
-use Rattle.amdl_tree.specs.declared.tree.Item.TheVariants.{Kind, Field, Host, Link, Sends, Forbid}
+use Rattle.amdl_tree.specs.declared.tree.Item.TheVariants.{Kind, Field, Class as OfClass, Host, Instance, Link, Sends, Forbid}
 use Rattle.amdl_tree.specs.Layout.{layout_of_end, layout_of_item, layout_of_pattern, listed}
-use Rattle.amdl_tree.specs.WellBuilt.{IsBuiltEnd, IsBuiltEqual, IsBuiltItem}
+use Rattle.amdl_tree.specs.WellBuilt.{IsBuiltEnd, IsBuiltEqual}
+use Rattle.layout_reader.specs.Flat.{IsFlatBuilt}
 use Rattle.amdl_tree.specs.Word.{IsName}
 
 five : (a b c d e : List ℕ) → a ++ (((b ++ c) ++ d) ++ e) ≡ (((a ++ b) ++ c) ++ d) ++ e
@@ -22,11 +23,13 @@ pub record NoForm (line : List ℕ) : Type 0 where
   pub sends : (said : List ℕ × List Equal) → IsName said.0 × All IsBuiltEqual said.1 → codes "sends " ++ ((said.0 ++ codes " : " ++ layout_of_pattern said.1) ++ codes ";") ≢ line
   pub forbid : (said : List ℕ × List Equal) → IsName said.0 × All IsBuiltEqual said.1 → codes "forbid " ++ ((said.0 ++ codes " : " ++ layout_of_pattern said.1) ++ codes ";") ≢ line
 
-pub no_item : (line : List ℕ) → NoForm line → (item : Item) → IsBuiltItem item → layout_of_item item ≢ line
+pub no_item : (line : List ℕ) → NoForm line → (item : Item) → IsFlatBuilt item → layout_of_item item ≢ line
 no_item line none (Kind name values) built e =
     none.kind (name, values) built (five (codes "type ") name (codes " = {") (listed values) (codes "};") ∙ e)
 no_item line none (Field name kind) built e =
     none.field (name, kind) built (five (codes "field ") name (codes " : ") kind (codes ";") ∙ e)
+no_item line none (OfClass class) built e = built
+no_item line none (Instance name class first) built e = built
 no_item line none (Host name) built e = none.host name built (sym (append_assoc (codes "host ") name (codes ";")) ∙ e)
 no_item line none (Link one two) built e =
     none.link (one, two) built (five (codes "link ") (layout_of_end one) (codes " -- ") (layout_of_end two) (codes ";") ∙ e)

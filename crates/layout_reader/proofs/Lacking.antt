@@ -8,9 +8,10 @@ use Rattle.std.proofs.lemmas.Bool.Decides.{nat_tests}
 use Rattle.amdl_tree.specs.declared.tree.Equal.{Equal}
 use Rattle.amdl_tree.specs.declared.tree.End.{End}
 use Rattle.amdl_tree.specs.declared.tree.Item.{Item}
-use Rattle.amdl_tree.specs.declared.tree.Item.TheVariants.{Kind, Field, Host, Link, Sends, Forbid}
+use Rattle.amdl_tree.specs.declared.tree.Item.TheVariants.{Kind, Field, Class as OfClass, Host, Instance, Link, Sends, Forbid}
 use Rattle.amdl_tree.specs.Layout.{layout_of_end, layout_of_equal, layout_of_item, layout_of_pattern, listed}
-use Rattle.amdl_tree.specs.WellBuilt.{IsBuiltEnd, IsBuiltEqual, IsBuiltItem}
+use Rattle.amdl_tree.specs.WellBuilt.{IsBuiltEnd, IsBuiltEqual}
+use Rattle.layout_reader.specs.Flat.{IsFlatBuilt}
 use Rattle.amdl_tree.specs.Word.{IsName, goes_on_with_word}
 use Rattle.layout_reader.specs.Reading.{Lacks}
 use Rattle.layout_reader.proofs.Parting.{name_lacks}
@@ -76,7 +77,7 @@ pattern_clear (equal ∷ equals) built =
 end_clear : (end : End) → IsBuiltEnd end → is_clear 10 (layout_of_end end) ≡ true
 end_clear end built = clear_lacks 10 (layout_of_end end) (end_lacks 10 end refl (omega arith) built)
 
-item_clear : (item : Item) → IsBuiltItem item → is_clear 10 (layout_of_item item) ≡ true
+item_clear : (item : Item) → IsFlatBuilt item → is_clear 10 (layout_of_item item) ≡ true
 item_clear (Kind name values) built =
     let one : is_clear 10 name ≡ true = name_clear 10 name refl built.0 in
     let two : is_clear 10 (listed values) ≡ true = values_clear values built.2 in
@@ -85,6 +86,8 @@ item_clear (Field name kind) built =
     let one : is_clear 10 name ≡ true = name_clear 10 name refl built.0 in
     let two : is_clear 10 kind ≡ true = name_clear 10 kind refl built.1 in
     simp (list_all-append, one, two)
+item_clear (OfClass class) built = absurd built
+item_clear (Instance name class first) built = absurd built
 item_clear (Host name) built =
     let one : is_clear 10 name ≡ true = name_clear 10 name refl built in
     simp (list_all-append, one)
@@ -102,7 +105,7 @@ item_clear (Forbid host pattern) built =
     simp (list_all-append, one, two)
 
 -- an item is of one line
-pub item_lacks : (item : Item) → IsBuiltItem item → Lacks 10 (layout_of_item item)
+pub item_lacks : (item : Item) → IsFlatBuilt item → Lacks 10 (layout_of_item item)
 item_lacks item built = lacks_clear 10 (layout_of_item item) (item_clear item built)
 
 -- and so is what stands before the items

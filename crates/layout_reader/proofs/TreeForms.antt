@@ -5,7 +5,7 @@ use Rattle.std.proofs.lemmas.List.{append_assoc}
 use Rattle.amdl_tree.specs.declared.tree.Item.{Item}
 use Rattle.amdl_tree.specs.declared.tree.Tree.{Tree}
 use Rattle.amdl_tree.specs.Layout.{layout_of_tree}
-use Rattle.amdl_tree.specs.WellBuilt.{IsBuiltItem, IsWellBuilt}
+use Rattle.layout_reader.specs.Flat.{IsFlatBuilt, IsFlatTree}
 use Rattle.amdl_tree.specs.Word.{IsName}
 use Rattle.layout_reader.specs.Reading.{Lacks}
 use Rattle.layout_reader.proofs.Parting.{no_pair, whole}
@@ -20,12 +20,12 @@ tree_parts : (tree : Tree) → head_of tree.name ++ 10 ∷ lines_of tree.items �
 tree_parts tree = simp append_assoc
 
 -- a text without a line feed
-pub no_head : (text : List ℕ) → Lacks 10 text → (tree : Tree) → IsWellBuilt tree → layout_of_tree tree ≢ text
+pub no_head : (text : List ℕ) → Lacks 10 text → (tree : Tree) → IsFlatTree tree → layout_of_tree tree ≢ text
 no_head text lacks tree built e = whole 10 text lacks (head_of tree.name) (lines_of tree.items) (tree_parts tree ∙ e)
 
 -- a text whose first line or whose other lines are none
 pub no_tree : (text head rest : List ℕ) → Lacks 10 head → head ++ 10 ∷ rest ≡ text →
-    ((name : List ℕ) → IsName name → head_of name ≢ head) ⊎ ((items : List Item) → All IsBuiltItem items → lines_of items ≢ rest) →
-    (tree : Tree) → IsWellBuilt tree → layout_of_tree tree ≢ text
+    ((name : List ℕ) → IsName name → head_of name ≢ head) ⊎ ((items : List Item) → All IsFlatBuilt items → lines_of items ≢ rest) →
+    (tree : Tree) → IsFlatTree tree → layout_of_tree tree ≢ text
 no_tree text head rest lacks parted none tree built e =
-    no_pair IsName (All IsBuiltItem) head_of lines_of 10 [] text head rest lacks parted head_lacks none tree.name tree.items built.named built.items (tree_parts tree ∙ e)
+    no_pair IsName (All IsFlatBuilt) head_of lines_of 10 [] text head rest lacks parted head_lacks none tree.name tree.items built.named built.items (tree_parts tree ∙ e)

@@ -1,7 +1,8 @@
 ghost use Rattle.std.specs.Prelude.{◌≡◌, ◌≢◌, [], ◌∷◌, ◌++◌, codes, IfOk};
 ghost use Rattle.std.specs.List.{All};
 ghost use Rattle.amdl_tree.specs.Layout.{layout_of_end, layout_of_item, layout_of_pattern, listed};
-ghost use Rattle.amdl_tree.specs.WellBuilt.{IsBuiltEnd, IsBuiltEqual, IsBuiltItem};
+ghost use Rattle.amdl_tree.specs.WellBuilt.{IsBuiltEnd, IsBuiltEqual};
+ghost use Rattle.layout_reader.specs.Flat.{IsFlatBuilt};
 ghost use Rattle.amdl_tree.specs.Word.{IsName};
 ghost use Rattle.layout_reader.specs.Reading.{IsReading};
 
@@ -13,7 +14,7 @@ use std::alloc::Global;
 
 /// The item that the line is without its line feed, if it is one. The error is want of memory.
 pub fn read_item(alloc: Global, line: &[u8]) -> Result<Option<Item>, NoMemory>
-    ensures { IfOk result (IsReading IsBuiltItem layout_of_item line.now) }
+    ensures { IfOk result (IsReading IsFlatBuilt layout_of_item line.now) }
 {
     if let Some(name) = read_host(line) {
         return Ok(Some(Item::Host { name }));

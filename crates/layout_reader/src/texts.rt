@@ -2,7 +2,7 @@ ghost use Rattle.std.specs.Prelude.{◌≡◌, ◌≢◌, ◌++◌, codes, IfOk,
 ghost use Rattle.std.specs.List.{All, flat_map};
 ghost use Rattle.amdl_tree.specs.declared.tree.Tree.{Tree};
 ghost use Rattle.amdl_tree.specs.Layout.{layout_of_item, layout_of_tree, line};
-ghost use Rattle.amdl_tree.specs.WellBuilt.{IsBuiltItem, IsWellBuilt};
+ghost use Rattle.layout_reader.specs.Flat.{IsFlatBuilt, IsFlatTree};
 ghost use Rattle.amdl_tree.specs.Word.{IsName};
 ghost use Rattle.layout_reader.specs.Reading.{IsReading};
 
@@ -17,8 +17,8 @@ use std::alloc::Global;
 /// The time is linear in the text. It takes memory for the tree alone, and the one error is want of memory.
 pub fn read_layout(alloc: Global, text: &[u8]) -> Result<Option<Tree>, NoMemory>
     ensures { IfOk result (λ found. MatchOption found
-        ((tree : Tree) → IsWellBuilt tree → layout_of_tree tree ≢ text.now)
-        (λ tree. IsWellBuilt tree × (layout_of_tree tree ≡ text.now))) }
+        ((tree : Tree) → IsFlatTree tree → layout_of_tree tree ≢ text.now)
+        (λ tree. IsFlatTree tree × (layout_of_tree tree ≡ text.now))) }
 {
     let Some((head, rest)) = until(text, b'\n') else {
         return Ok(None);
@@ -42,7 +42,7 @@ fn read_head(head: &[u8]) -> Option<Name>
 
 // The items whose lines the text is, if it is some.
 fn read_items(alloc: Global, text: &[u8]) -> Result<Option<List<Item>>, NoMemory>
-    ensures { IfOk result (IsReading (All IsBuiltItem)
+    ensures { IfOk result (IsReading (All IsFlatBuilt)
         (flat_map (λ item. line (layout_of_item item))) text.now) }
 {
     let mut items = List::new(alloc);

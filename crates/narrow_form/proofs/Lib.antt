@@ -1,3 +1,4 @@
+mod FlatLemmas
 mod NameLemmas
 mod ItemLemmas
 mod NetLemmas

@@ -8,7 +8,7 @@ use Rattle.amdl_tree.specs.declared.tree.Equal.{Equal}
 use Rattle.amdl_tree.specs.declared.tree.End.{End}
 use Rattle.amdl_tree.specs.declared.tree.End.TheVariants.{Host as AtHost, Port as AtPort}
 use Rattle.amdl_tree.specs.declared.tree.Item.{Item}
-use Rattle.amdl_tree.specs.declared.tree.Item.TheVariants.{Kind, Field, Host, Link, Sends, Forbid}
+use Rattle.amdl_tree.specs.declared.tree.Item.TheVariants.{Kind, Field, Class as OfClass, Host, Instance, Link, Sends, Forbid}
 use Rattle.net_plan.specs.declared.plan.Plan.{Plan}
 use Rattle.net_plan.specs.declared.plan.KindPlan.{KindPlan}
 use Rattle.net_plan.specs.declared.plan.FieldPlan.{FieldPlan}
@@ -28,7 +28,9 @@ number_of (first ∷ others) name = if same_name first name then 0 else (number_
 abbrev pub kind_of_item : Item → Option KindPlan
 kind_of_item (Kind name values) = Some (record { name = name; values = values })
 kind_of_item (Field name kind) = None
+kind_of_item (OfClass class) = None
 kind_of_item (Host name) = None
+kind_of_item (Instance instance class first) = None
 kind_of_item (Link one two) = None
 kind_of_item (Sends host pattern) = None
 kind_of_item (Forbid host pattern) = None
@@ -43,7 +45,9 @@ kind_names kinds = map (λ kind. kind.name) kinds
 abbrev pub field_of_item : List KindPlan → Item → Option FieldPlan
 field_of_item kinds (Kind name values) = None
 field_of_item kinds (Field name kind) = Some (record { name = name; kind = number_of (kind_names kinds) kind })
+field_of_item kinds (OfClass class) = None
 field_of_item kinds (Host name) = None
+field_of_item kinds (Instance instance class first) = None
 field_of_item kinds (Link one two) = None
 field_of_item kinds (Sends host pattern) = None
 field_of_item kinds (Forbid host pattern) = None
@@ -74,7 +78,9 @@ pattern_of kinds fields equals = fold (with_equal kinds fields) any_pattern equa
 abbrev pub host_name_of_item : Item → Option (List ℕ)
 host_name_of_item (Kind name values) = None
 host_name_of_item (Field name kind) = None
+host_name_of_item (OfClass class) = None
 host_name_of_item (Host name) = Some name
+host_name_of_item (Instance instance class first) = None
 host_name_of_item (Link one two) = None
 host_name_of_item (Sends host pattern) = None
 host_name_of_item (Forbid host pattern) = None
@@ -85,7 +91,9 @@ host_names items = filter_map host_name_of_item items
 abbrev pub sent_of_item : List ℕ → Item → Option (List Equal)
 sent_of_item name (Kind other values) = None
 sent_of_item name (Field other kind) = None
+sent_of_item name (OfClass class) = None
 sent_of_item name (Host other) = None
+sent_of_item name (Instance instance class first) = None
 sent_of_item name (Link one two) = None
 sent_of_item name (Sends host pattern) = if same_name host name then (Some pattern) else None
 sent_of_item name (Forbid host pattern) = None
@@ -93,7 +101,9 @@ sent_of_item name (Forbid host pattern) = None
 abbrev pub forbidden_of_item : List ℕ → Item → Option (List Equal)
 forbidden_of_item name (Kind other values) = None
 forbidden_of_item name (Field other kind) = None
+forbidden_of_item name (OfClass class) = None
 forbidden_of_item name (Host other) = None
+forbidden_of_item name (Instance instance class first) = None
 forbidden_of_item name (Link one two) = None
 forbidden_of_item name (Sends host pattern) = None
 forbidden_of_item name (Forbid host pattern) = if same_name host name then (Some pattern) else None
@@ -117,7 +127,9 @@ end_number hosts (AtPort box port) = 0
 abbrev pub link_of_item : List (List ℕ) → Item → Option LinkPlan
 link_of_item hosts (Kind name values) = None
 link_of_item hosts (Field name kind) = None
+link_of_item hosts (OfClass class) = None
 link_of_item hosts (Host name) = None
+link_of_item hosts (Instance instance class first) = None
 link_of_item hosts (Link one two) = Some (record { one = end_number hosts one; two = end_number hosts two })
 link_of_item hosts (Sends host pattern) = None
 link_of_item hosts (Forbid host pattern) = None

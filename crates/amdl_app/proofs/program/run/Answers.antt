@@ -47,16 +47,16 @@ pub returns-clause-safe_only : goal.returns-clause-safe_only
 returns-clause-safe_only g c =
     safe_only (spelled c.args.words.now) (g.F.Files.told c.args.files.now) (g.F.Files.faults c.args.files.now) (g.F.Files.faults c.perform.new.files)
     c.safe_is_told.ensures c.messages_are_not_safe.ensures
-    (g.S.Sink.written c.args.out.now) (g.S.Sink.written c.perform.new.out) (g.S.Sink.faults c.args.out.now) (g.S.Sink.faults c.perform.new.out) c.perform.result c.layout_is_one_to_one.ensures c.perform.ensures.call
+    (g.S.Sink.written c.args.out.now) (g.S.Sink.written c.perform.new.out) (g.S.Sink.faults c.args.out.now) (g.S.Sink.faults c.perform.new.out) c.perform.result c.narrow_layout_is_one_to_one.ensures c.perform.ensures.call
 
 pub returns-clause-safe_runs : goal.returns-clause-safe_runs
 returns-clause-safe_runs g c =
     safe_runs (spelled c.args.words.now) (g.F.Files.told c.args.files.now) (g.F.Files.faults c.args.files.now) (g.F.Files.faults c.perform.new.files)
     c.safe_is_told.ensures c.messages_are_not_safe.ensures
-    (g.S.Sink.written c.args.out.now) (g.S.Sink.written c.perform.new.out) (g.S.Sink.faults c.args.out.now) (g.S.Sink.faults c.perform.new.out) c.perform.result c.layout_is_one_to_one.ensures c.safe_network_runs_safely.ensures c.perform.ensures.call
+    (g.S.Sink.written c.args.out.now) (g.S.Sink.written c.perform.new.out) (g.S.Sink.faults c.args.out.now) (g.S.Sink.faults c.perform.new.out) c.perform.result c.narrow_layout_is_one_to_one.ensures c.safe_network_runs_safely.ensures c.perform.ensures.call
 
 pub returns-clause-safe_if : goal.returns-clause-safe_if
 returns-clause-safe_if g c =
     safe_if (spelled c.args.words.now) (g.F.Files.told c.args.files.now) (g.F.Files.faults c.args.files.now) (g.F.Files.faults c.perform.new.files)
     c.safe_is_told.ensures c.messages_are_not_safe.ensures
-    (g.S.Sink.written c.args.out.now) (g.S.Sink.written c.perform.new.out) (g.S.Sink.faults c.args.out.now) (g.S.Sink.faults c.perform.new.out) c.perform.result c.layout_is_one_to_one.ensures c.perform.ensures.call
+    (g.S.Sink.written c.args.out.now) (g.S.Sink.written c.perform.new.out) (g.S.Sink.faults c.args.out.now) (g.S.Sink.faults c.perform.new.out) c.perform.result c.narrow_layout_is_one_to_one.ensures c.perform.ensures.call

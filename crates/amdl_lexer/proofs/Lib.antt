@@ -1,0 +1,8 @@
+pub mod Answers
+pub mod Exists
+pub mod Fronts
+pub mod Lexemes
+pub mod Numbers
+pub mod Pieces
+pub mod Runs
+pub mod Signs

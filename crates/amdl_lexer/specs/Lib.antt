@@ -1,0 +1,5 @@
+pub mod Answer
+pub mod Front
+pub mod Laws
+pub mod Reading
+pub mod Sign
