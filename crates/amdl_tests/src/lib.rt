@@ -1,9 +1,11 @@
-//! Tests of the one call, over files and sinks in memory and over the real ones.
+//! Tests of the one call, over files and sinks in memory and over the real ones, and of the lexer with the parser.
 #![tactic(auto)]
 
 #[cfg(test)]
 mod analyse;
 #[cfg(test)]
 mod faults;
+#[cfg(test)]
+mod language;
 #[cfg(test)]
 mod texts;

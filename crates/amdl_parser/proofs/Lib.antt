@@ -1,0 +1,11 @@
+pub mod AnswerLemmas
+pub mod Holds
+pub mod Readers
+pub mod WholeLemmas
+pub mod Loops
+pub mod Parts
+pub mod Levels
+pub mod GuardReaders
+pub mod ItemReaders
+pub mod StatementReaders
+pub mod TreeReaders

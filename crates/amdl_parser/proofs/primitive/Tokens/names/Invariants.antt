@@ -1,0 +1,16 @@
+use Rattle.std.proofs.Common.{◌<◌, length}
+use Rattle.amdl_tree.specs.declared.token.Token.TheVariants.{Sign as Signed}
+use Rattle.amdl_tree.specs.declared.token.Sign.TheVariants.{Comma}
+use Rattle.amdl_parser.specs.Reading.{word_at}
+use Rattle.amdl_parser.specs.Grammar.{names_at}
+use Rattle.amdl_parser.proofs.Loops.{Listing}
+use Rattle.amdl_parser.proofs.primitive.Tokens.names.Given as goal
+
+abbrev pub invariant-loop-self : goal.invariant-loop-self
+invariant-loop-self l = record {
+  listing : Listing names_at (Signed Comma) word_at l.fn.self.left.now l.self.left.now l.names;
+  shorter : length l.self.left.now < length l.fn.self.left.now;
+}
+
+abbrev pub decreases-loop-self : goal.decreases-loop-self
+decreases-loop-self l = length l.self.left.now

@@ -1,0 +1,50 @@
+ghost use Rattle.std.specs.Prelude.{◌≡◌, ◌≤◌, ◌-◌, length, Ok, Err};
+ghost use Rattle.amdl_parser.specs.Reading.{tokens_of, answer_of, IsUnlessMemory};
+ghost use Rattle.amdl_parser.specs.Grammar.{tree_at};
+ghost use Rattle.amdl_parser.specs.Answer.{IsTreeAnswer};
+
+use crate::fault::Fault;
+use crate::primitive::{Tokens, show_names};
+use crate::refusal::SyntaxRefusal;
+use amdl_tree::{Lexed, Tree};
+use std::alloc::Global;
+
+/// The number of the token in front of which so many are left.
+fn place(count: usize, left: usize) -> u32
+    requires { count ≤ 1000000 }
+    ensures { result ≡ count - left }
+{
+    count.saturating_sub(left) as u32
+}
+
+/// The tree whose spelling the tokens are, of a depth of at most 32. It takes time linear in the tokens and memory
+/// for the tree, and stands at most 32 levels of statements and guards deep.
+///
+/// `Syntax(k)` comes where the first `k` tokens begin such a tree and the first `k + 1` begin no tree at all, or where
+/// `k` is the number of tokens and they end too early. `Deep(k)` comes where the first `k` begin such a tree and the
+/// first `k + 1` begin only deeper ones. After want of memory nothing is kept.
+pub fn parse(alloc: Global, tokens: &[Lexed]) -> Result<Tree, SyntaxRefusal>
+    requires { length tokens.now ≤ 1000000 }
+    ensures { IsTreeAnswer (tokens_of tokens.now) result }
+{
+    show_names(tokens);
+    read_whole(alloc, tokens)
+}
+
+fn read_whole(alloc: Global, tokens: &[Lexed]) -> Result<Tree, SyntaxRefusal>
+    requires { length tokens.now ≤ 1000000 }
+    ensures { IsUnlessMemory (answer_of (length tokens.now) (tree_at 32 (tokens_of tokens.now))) result }
+{
+    let mut unread = Tokens { left: tokens };
+    match unread.tree(alloc, 32) {
+        Ok(tree) => {
+            if unread.left.is_empty() {
+                return Ok(tree);
+            }
+            Err(SyntaxRefusal::Syntax(place(tokens.len(), unread.left.len())))
+        }
+        Err(Fault::Syntax(left)) => Err(SyntaxRefusal::Syntax(place(tokens.len(), left))),
+        Err(Fault::Deep(left)) => Err(SyntaxRefusal::Deep(place(tokens.len(), left))),
+        Err(Fault::NoMemory) => Err(SyntaxRefusal::NoMemory),
+    }
+}
