@@ -87,9 +87,9 @@ module _ (P : List Alternative → Type 0) (Q : List Stmt → Type 0) (tokens : 
 
 no_layer : (ts : T) → begins (Key words.Insert) ts ≡ false → begins (Key words.Remove) ts ≡ false → begins (Key words.Output) ts ≡ false → begins (Key words.Abort) ts ≡ false → begins (Key words.If) ts ≡ false → begins (Key words.Pick) ts ≡ false →
     (l : Layer) (b : T) → Heads ts (spell_of_layer l ++ b) → ⊥
-no_layer ts i r o a f p (Stmt-F.Insert atom) b h = not_begun (Key words.Insert) ts _ (own_key words.Insert) i h
-no_layer ts i r o a f p (Stmt-F.Remove atom) b h = not_begun (Key words.Remove) ts _ (own_key words.Remove) r h
-no_layer ts i r o a f p (Stmt-F.Output port changes) b h = not_begun (Key words.Output) ts _ (own_key words.Output) o h
+no_layer ts i r o a f p (Stmt-F.Insert _) b h = not_begun (Key words.Insert) ts _ (own_key words.Insert) i h
+no_layer ts i r o a f p (Stmt-F.Remove _) b h = not_begun (Key words.Remove) ts _ (own_key words.Remove) r h
+no_layer ts i r o a f p (Stmt-F.Output _ _) b h = not_begun (Key words.Output) ts _ (own_key words.Output) o h
 no_layer ts i r o a f p Stmt-F.Abort b h = not_begun (Key words.Abort) ts _ (own_key words.Abort) a h
 no_layer ts i r o a f p (Stmt-F.Choose alternatives) b h = not_begun (Key words.If) ts _ (own_key words.If) f h
 no_layer ts i r o a f p (Stmt-F.Pick name kind body) b h = not_begun (Key words.Pick) ts _ (own_key words.Pick) p h

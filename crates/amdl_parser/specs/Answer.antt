@@ -1,11 +1,19 @@
 -- What it is that tokens are read, for any kind of value that is spelled in tokens.
-use Rattle.std.specs.Prelude.{◌≡◌, ◌<◌, ◌≤◌, ◌+◌, ℕ, List, ◌++◌, length, take, Result, Ok, Err, ⊤}
+use Rattle.std.specs.Prelude.{◌≡◌, ◌<◌, ◌≤◌, ◌+◌, ℕ, List, ◌++◌, length, map, take, Result, Ok, Err, ⊤}
 use Rattle.amdl_tree.specs.Spelling.{spell}
 use Rattle.amdl_tree.specs.WellBuilt.{IsWellBuilt, IsShaped}
+use Rattle.amdl_tree.specs.declared.token.Lexed.{Lexed}
 use Rattle.amdl_tree.specs.declared.token.Token.{Token}
 use Rattle.amdl_tree.specs.declared.tree.Tree.{Tree}
 use Rattle.amdl_parser.specs.declared.refusal.SyntaxRefusal.{SyntaxRefusal}
 use Rattle.amdl_parser.specs.declared.refusal.SyntaxRefusal.TheVariants.{Syntax, Deep, NoMemory}
+
+-- the token without its place
+abbrev pub token_of : Lexed → Token
+token_of lexed = lexed.token
+
+abbrev pub tokens_of : List Lexed → List Token
+tokens_of = map token_of
 
 -- the tokens are the spelling of a value of this kind
 abbrev pub Spells : {X : Type 0} → (X → List Token) → (X → Type 0) → List Token → Type 0

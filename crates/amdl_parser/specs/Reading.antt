@@ -1,5 +1,5 @@
 -- Reading a value from the front of a token list, and how readings are put together.
-use Rattle.std.specs.Prelude.{◌≡◌, ◌-◌, ℕ, zero, suc, Bool, false, List, [], ◌∷◌, length, map, Option, Some, None, Result, Ok, Err, ⊤, if◌then◌else◌}
+use Rattle.std.specs.Prelude.{◌≡◌, ◌-◌, ℕ, zero, suc, Bool, false, List, [], ◌∷◌, length, Option, Some, None, Result, Ok, Err, ⊤, if◌then◌else◌}
 use denote.Enum.Bare.{sameb}
 use Rattle.amdl_tree.specs.contracts.token.Sign.{the_type as the_signs}
 use Rattle.amdl_tree.specs.contracts.reserved.Reserved.{the_type as the_words}
@@ -9,17 +9,11 @@ use Rattle.amdl_tree.specs.declared.token.Sign.{Sign}
 use Rattle.amdl_tree.specs.declared.reserved.Reserved.{Reserved}
 use Rattle.amdl_tree.specs.declared.token.Token.{Token}
 use Rattle.amdl_tree.specs.declared.token.Token.TheVariants.{Word, Key, Sign as Signed}
+pub use Rattle.amdl_parser.specs.Answer.{token_of, tokens_of}
 use Rattle.amdl_parser.specs.declared.refusal.SyntaxRefusal.{SyntaxRefusal}
 use Rattle.amdl_parser.specs.declared.refusal.SyntaxRefusal.TheVariants as Refusal
 use Rattle.amdl_parser.specs.declared.fault.Fault.{Fault}
 use Rattle.amdl_parser.specs.declared.fault.Fault.TheVariants.{Syntax, Deep, NoMemory}
-
--- the token without its place
-abbrev pub token_of : Lexed → Token
-token_of lexed = lexed.token
-
-abbrev pub tokens_of : List Lexed → List Token
-tokens_of = map token_of
 
 -- a word among the tokens is a name
 abbrev pub IsNamed : Token → Type 0

@@ -1,7 +1,7 @@
 ghost use Rattle.std.specs.Prelude.{◌≡◌, ◌≤◌, ◌-◌, length, Ok, Err};
-ghost use Rattle.amdl_parser.specs.Reading.{tokens_of, answer_of, IsUnlessMemory};
+ghost use Rattle.amdl_parser.specs.Reading.{answer_of, IsUnlessMemory};
 ghost use Rattle.amdl_parser.specs.Grammar.{tree_at};
-ghost use Rattle.amdl_parser.specs.Answer.{IsTreeAnswer};
+ghost use Rattle.amdl_parser.specs.Answer.{IsTreeAnswer, tokens_of};
 
 use crate::fault::Fault;
 use crate::primitive::{Tokens, show_names};
