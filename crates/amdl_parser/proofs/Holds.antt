@@ -51,7 +51,7 @@ abbrev pub Holds : {X : Type 0} → (X → T) → (X → Type 0) → (X → Type
 Holds s W F goes ts (Ok p) = Took s F goes ts p.0 p.1
 Holds s W F goes ts (Err (Syntax left)) = (at : Split ts left) × Stop s F W goes at.front at.rest
 Holds s W F goes ts (Err (Deep left)) = (at : Split ts left) × Stop s F F goes at.front at.rest × Further s W at.front at.rest
-Holds s W F goes ts (Err NoMemory) = ⊤
+Holds s W F goes ts (Err NoMemory) = ⊥
 
 -- the words among the tokens are names
 abbrev pub Named : T → Type 0
@@ -145,7 +145,7 @@ module _ {X Y : Type 0} {s : X → T} {W F : X → Type 0} {goes : X → Token �
     form_stop F G fits h.0.front h.0.rest h.1 (λ y b q u hd. let o = only y b (weaker y q) u (subst (λ l. Heads l (t y ++ b)) (sym h.0.whole) hd) in (o.0, o.1, o.3 q, o.4)),
     record { deep = made h.2.deep; next = h.2.next; others = h.2.others; after = h.2.after; has = h.2.has; built = built h.2.deep h.2.built; spelled = same h.2.deep h.2.built ∙ h.2.spelled },
   )
-  form_holds ts (Err NoMemory) weaker only h = tt
+  form_holds ts (Err NoMemory) weaker only h = h
 
 -- one value and then another
 module _ {X Y : Type 0} {s : X → T} {W F : X → Type 0} {goes : X → Token → Bool} (t : Y → T) (V G : Y → Type 0) (more : Y → Token → Bool)
@@ -195,7 +195,7 @@ module _ {X Y : Type 0} {s : X → T} {W F : X → Type 0} {goes : X → Token �
     stop_two x F G fits fits2 k.0.front k.0.rest h.fits (subst (Past (goes x)) k.0.whole h.past) k.1,
     record { deep = (x, k.2.deep); next = k.2.next; others = k.2.others; after = k.2.after; has = k.2.has; built = (fits x h.fits, k.2.built); spelled = ap (λ l. s x ++ l) k.2.spelled ∙ sym (append_assoc (s x) k.0.front (k.2.next ∷ k.2.after)) },
   )
-  chain_two ts x rest h (Err NoMemory) k = tt
+  chain_two ts x rest h (Err NoMemory) k = k
 
   pub chain_holds : (ts : T) (a : Answer X) (q : T → Answer Y) → Holds s W F goes ts a → ((x : X) (rest : T) → Took s F goes ts x rest → Holds t V G more rest (q rest)) → Holds both (Both W V) (Both F G) goes_both ts (go_on (λ value rest. go_on (read_pair value) (q rest)) a)
   chain_holds ts (Ok p) q h next = chain_two ts p.0 p.1 h (q p.1) (next p.0 p.1 h)
@@ -205,7 +205,7 @@ module _ {X Y : Type 0} {s : X → T} {W F : X → Type 0} {goes : X → Token �
     stop_one F G fits fits2 h.0.front h.0.rest h.1,
     record { deep = (h.2.deep, least); next = h.2.next; others = h.2.others; after = h.2.after ++ t least; has = h.2.has; built = (h.2.built, fits2 least small); spelled = ap (λ l. l ++ t least) h.2.spelled ∙ append_assoc h.0.front (h.2.next ∷ h.2.after) (t least) },
   )
-  chain_holds ts (Err NoMemory) q h next = tt
+  chain_holds ts (Err NoMemory) q h next = h
 
 -- the same with other words for what is asked
 module _ {X : Type 0} (s : X → T) {W F V G : X → Type 0} (goes : X → Token → Bool) (to_v : (x : X) → W x → V x) (from_v : (x : X) → V x → W x) (to_g : (x : X) → F x → G x) (from_g : (x : X) → G x → F x) where
@@ -226,4 +226,4 @@ module _ {X : Type 0} (s : X → T) {W F V G : X → Type 0} (goes : X → Token
     recast_stop F G from_g h.0.front h.0.rest h.1,
     record { deep = h.2.deep; next = h.2.next; others = h.2.others; after = h.2.after; has = h.2.has; built = to_v h.2.deep h.2.built; spelled = h.2.spelled },
   )
-  recast_holds ts (Err NoMemory) h = tt
+  recast_holds ts (Err NoMemory) h = h

@@ -9,3 +9,4 @@ pub mod GuardReaders
 pub mod ItemReaders
 pub mod StatementReaders
 pub mod TreeReaders
+pub mod TreeAnswers

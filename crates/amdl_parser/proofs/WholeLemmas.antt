@@ -6,7 +6,7 @@ use Rattle.amdl_tree.specs.GoesOn.{Past, Once}
 use Rattle.amdl_tree.specs.declared.token.Token.{Token}
 use Rattle.amdl_parser.specs.declared.fault.Fault.TheVariants.{Syntax, Deep, NoMemory}
 use Rattle.amdl_parser.specs.Reading.{Answer, answer_of, ended}
-use Rattle.amdl_parser.specs.Answer.{Begins, IsSyntaxAt, IsDeepAt, IsAnswer}
+use Rattle.amdl_parser.specs.Answer.{Begins, IsSyntaxAt, IsDeepAt, IsAnswer, WantsMemory}
 use Rattle.amdl_parser.proofs.Holds.{Heads, Took, Stop, Further, Holds, past_headed}
 
 abbrev T : Type 0
@@ -100,3 +100,11 @@ module _ {X : Type 0} {s : X → T} {W F : X → Type 0} {goes : X → Token →
   answered ts (Err (Syntax left)) h = stop_answer ts h.0.front h.0.rest left h.0.whole h.0.count (ends s F W goes h.0.front h.0.rest h.1)
   answered ts (Err (Deep left)) h = deep_answer ts h.0.front h.0.rest left h.0.whole h.0.count (ends s F F goes h.0.front h.0.rest h.1) h.2
   answered ts (Err NoMemory) h = tt
+
+-- a right reading never wants memory
+pub never_wants : {X : Type 0} (s : X → T) (W F : X → Type 0) (goes : X → Token → Bool) (n : ℕ) (ts : T) (a : Answer X) → Holds s W F goes ts a → WantsMemory (answer_of n a) → ⊥
+never_wants s W F goes n ts (Ok (x, [])) h e = cc
+never_wants s W F goes n ts (Ok (x, next ∷ others)) h e = cc
+never_wants s W F goes n ts (Err (Syntax left)) h e = cc
+never_wants s W F goes n ts (Err (Deep left)) h e = cc
+never_wants s W F goes n ts (Err NoMemory) h e = h

@@ -1,9 +1,11 @@
 -- What it is that tokens are read, for any kind of value that is spelled in tokens.
-use Rattle.std.specs.Prelude.{◌≡◌, ◌<◌, ◌≤◌, ◌+◌, ℕ, List, ◌++◌, length, map, take, Result, Ok, Err, ⊤}
+use Rattle.std.specs.Prelude.{All, ◌≡◌, ◌<◌, ◌≤◌, ◌+◌, ℕ, List, ◌++◌, ◌⊎◌, length, map, take, Result, Ok, Err, ⊤}
 use Rattle.amdl_tree.specs.Spelling.{spell}
 use Rattle.amdl_tree.specs.WellBuilt.{IsWellBuilt, IsShaped}
 use Rattle.amdl_tree.specs.declared.token.Lexed.{Lexed}
+use Rattle.amdl_tree.specs.Word.{IsName}
 use Rattle.amdl_tree.specs.declared.token.Token.{Token}
+use Rattle.amdl_tree.specs.declared.token.Token.TheVariants.{Word}
 use Rattle.amdl_tree.specs.declared.tree.Tree.{Tree}
 use Rattle.amdl_parser.specs.declared.refusal.SyntaxRefusal.{SyntaxRefusal}
 use Rattle.amdl_parser.specs.declared.refusal.SyntaxRefusal.TheVariants.{Syntax, Deep, NoMemory}
@@ -14,6 +16,11 @@ token_of lexed = lexed.token
 
 abbrev pub tokens_of : List Lexed → List Token
 tokens_of = map token_of
+
+-- a word among the tokens is a name
+abbrev pub IsNamed : Token → Type 0
+IsNamed (Word name) = IsName name
+IsNamed token = ⊤
 
 -- the tokens are the spelling of a value of this kind
 abbrev pub Spells : {X : Type 0} → (X → List Token) → (X → Type 0) → List Token → Type 0
@@ -52,6 +59,18 @@ IsTreeAnswer = IsAnswer spell IsWellBuilt IsShaped
 abbrev pub WantsMemory : {X : Type 0} → Result X SyntaxRefusal → Type 0
 WantsMemory answer = answer ≡ Err NoMemory
 
--- a token list has at most one answer, but for want of memory
+-- it is this answer, or memory was wanting
+abbrev pub IsOrNoMemory : {X : Type 0} → Result X SyntaxRefusal → Result X SyntaxRefusal → Type 0
+IsOrNoMemory result answer = (result ≡ answer) ⊎ WantsMemory result
+
+-- what the tokens alone make the answer
+abbrev pub IsFullAnswer : List Token → Result Tree SyntaxRefusal → Type 0
+IsFullAnswer tokens answer = IsTreeAnswer tokens answer × ¬ WantsMemory answer
+
+-- no token list has two answers
 abbrev pub OneAnswer : Type 0
-OneAnswer = (tokens : List Token) (one two : Result Tree SyntaxRefusal) → IsTreeAnswer tokens one → IsTreeAnswer tokens two → (WantsMemory one → ⊥) → (WantsMemory two → ⊥) → one ≡ two
+OneAnswer = (tokens : List Token) (one two : Result Tree SyntaxRefusal) → IsFullAnswer tokens one → IsFullAnswer tokens two → one ≡ two
+
+-- each token list has one; the words of a list are names
+abbrev pub SomeAnswer : Type 0
+SomeAnswer = (tokens : List Token) → All IsNamed tokens → (answer : Result Tree SyntaxRefusal) × IsFullAnswer tokens answer

@@ -3,22 +3,16 @@ use Rattle.std.specs.Prelude.{◌≡◌, ◌-◌, ℕ, zero, suc, Bool, false, L
 use denote.Enum.Bare.{sameb}
 use Rattle.amdl_tree.specs.contracts.token.Sign.{the_type as the_signs}
 use Rattle.amdl_tree.specs.contracts.reserved.Reserved.{the_type as the_words}
-use Rattle.amdl_tree.specs.Word.{IsName}
 use Rattle.amdl_tree.specs.declared.token.Lexed.{Lexed}
 use Rattle.amdl_tree.specs.declared.token.Sign.{Sign}
 use Rattle.amdl_tree.specs.declared.reserved.Reserved.{Reserved}
 use Rattle.amdl_tree.specs.declared.token.Token.{Token}
 use Rattle.amdl_tree.specs.declared.token.Token.TheVariants.{Word, Key, Sign as Signed}
-pub use Rattle.amdl_parser.specs.Answer.{token_of, tokens_of}
+pub use Rattle.amdl_parser.specs.Answer.{token_of, tokens_of, IsNamed}
 use Rattle.amdl_parser.specs.declared.refusal.SyntaxRefusal.{SyntaxRefusal}
 use Rattle.amdl_parser.specs.declared.refusal.SyntaxRefusal.TheVariants as Refusal
 use Rattle.amdl_parser.specs.declared.fault.Fault.{Fault}
 use Rattle.amdl_parser.specs.declared.fault.Fault.TheVariants.{Syntax, Deep, NoMemory}
-
--- a word among the tokens is a name
-abbrev pub IsNamed : Token → Type 0
-IsNamed (Word name) = IsName name
-IsNamed token = ⊤
 
 -- `==` on signs and on reserved words
 unfoldable pub same_sign : Sign → Sign → Bool

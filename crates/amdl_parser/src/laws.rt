@@ -1,7 +1,8 @@
 //! Laws over the definitions, each the contract of a function that does nothing.
-ghost use Rattle.amdl_parser.specs.Answer.{OneAnswer};
+ghost use Rattle.amdl_parser.specs.Answer.{SomeAnswer, OneAnswer};
 
-/// A token list has at most one answer, but for want of memory.
+/// Each token list has exactly one answer: the tree whose spelling it is, or the place of one fault, and never both.
 pub fn one_answer()
-    ensures { OneAnswer }
+    ensures some { SomeAnswer }
+    ensures one { OneAnswer }
 {}

@@ -1,7 +1,10 @@
-ghost use Rattle.std.specs.Prelude.{◌≡◌, ◌≤◌, ◌-◌, length, Ok, Err};
+ghost use Rattle.std.specs.Prelude.{◌≡◌, ◌≤◌, ◌-◌, ℕ, length, Ok, Err};
+ghost use Rattle.amdl_tree.specs.Spelling.{spell};
+ghost use Rattle.amdl_tree.specs.WellBuilt.{IsWellBuilt, IsShaped};
+ghost use Rattle.amdl_tree.specs.declared.tree.Tree.{Tree};
 ghost use Rattle.amdl_parser.specs.Reading.{answer_of, IsUnlessMemory};
 ghost use Rattle.amdl_parser.specs.Grammar.{tree_at};
-ghost use Rattle.amdl_parser.specs.Answer.{IsTreeAnswer, tokens_of};
+ghost use Rattle.amdl_parser.specs.Answer.{IsTreeAnswer, IsSyntaxAt, IsDeepAt, IsOrNoMemory, tokens_of};
 
 use crate::fault::Fault;
 use crate::primitive::{Tokens, show_names};
@@ -25,7 +28,12 @@ fn place(count: usize, left: usize) -> u32
 /// first `k + 1` begin only deeper ones. After want of memory nothing is kept.
 pub fn parse(alloc: Global, tokens: &[Lexed]) -> Result<Tree, SyntaxRefusal>
     requires { length tokens.now ≤ 1000000 }
-    ensures { IsTreeAnswer (tokens_of tokens.now) result }
+    ensures answer { IsTreeAnswer (tokens_of tokens.now) result }
+
+    // Each answer also comes wherever the tokens have its cause, unless memory runs out.
+    ensures read { (tree : Tree) → IsShaped tree → spell tree ≡ tokens_of tokens.now → IsOrNoMemory result (Ok tree) }
+    ensures syntax { (k : ℕ) → IsSyntaxAt spell IsWellBuilt IsShaped (tokens_of tokens.now) k → IsOrNoMemory result (Err (SyntaxRefusal.Syntax k)) }
+    ensures deep { (k : ℕ) → IsDeepAt spell IsWellBuilt IsShaped (tokens_of tokens.now) k → IsOrNoMemory result (Err (SyntaxRefusal.Deep k)) }
 {
     show_names(tokens);
     read_whole(alloc, tokens)

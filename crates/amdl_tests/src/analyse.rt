@@ -1,5 +1,6 @@
 //! `analyse` over files that are sure, and over the real ones.
-use crate::texts::{SAFE_WIRE, WIRE, analyse, analysis_of, full};
+use crate::networks::WIRE;
+use crate::texts::{SAFE_WIRE, analyse, analysis_of, full};
 use amdl_app::run;
 use outside::{HostFiles, HostSink, SureFiles, SureSink};
 use std::fs;

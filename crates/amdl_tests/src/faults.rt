@@ -1,5 +1,6 @@
 //! `analyse` over files and sinks that fail at a named call.
-use crate::texts::{WIRE, analyse, full};
+use crate::networks::WIRE;
+use crate::texts::{analyse, full};
 use outside::{MemoryFiles, MemorySink};
 use std::test::Fail;
 

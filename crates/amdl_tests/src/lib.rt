@@ -8,4 +8,8 @@ mod faults;
 #[cfg(test)]
 mod language;
 #[cfg(test)]
+mod networks;
+#[cfg(test)]
+mod spelling;
+#[cfg(test)]
 mod texts;

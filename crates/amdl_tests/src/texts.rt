@@ -4,11 +4,16 @@ use outside::{Files, Sink, SureFiles, SureSink};
 use std::alloc::{AllocError, Global};
 use std::test::Fail;
 
-pub(crate) const WIRE: &str =
-    "network wire;\ntype Addr = {a, b};\nfield src : Addr;\nfield dst : Addr;\nhost p;\nhost q;\nlink p -- q;\nsends p : src = a;\nforbid q : src = a, dst = b;\n";
-
-pub(crate) const SAFE_WIRE: &str =
-    "network wire;\ntype Addr = {a, b};\nfield src : Addr;\nfield dst : Addr;\nhost p;\nhost q;\nlink p -- q;\nsends p : src = a;\nforbid q : src = b;\n";
+pub(crate) const SAFE_WIRE: &str = "network wire;
+type Addr = {a, b};
+field src : Addr;
+field dst : Addr;
+host p;
+host q;
+link p -- q;
+sends p : src = a;
+forbid q : src = b;
+";
 
 /// A network of this many values and fields, in which each packet is sent and forbidden.
 pub(crate) fn full(alloc: Global, values: u32, fields: u32) -> Result<String, AllocError> {
