@@ -1,23 +1,17 @@
 -- A text has one answer.
 use Rattle.std.proofs.Common.{◌≡◌, ℕ, List, [], Result, Ok, Err, inl, inr, length, drop, refl, sym, ap, subst, arith, length-append}
-use Rattle.std.proofs.lemmas.List.{drop_all}
 use Rattle.amdl_tree.specs.declared.token.Lexed.{Lexed}
+use Rattle.amdl_tree.proofs.LexemeLemmas.{lexeme_some}
 use Rattle.amdl_lexer.specs.Answer.{IsLexed, IsRefused, IsOrNoMemory, StopsAt, StartsNothing, StartsOverlong, IsOverfull}
 use Rattle.amdl_lexer.specs.Laws.{OneAnswer, IsAnswer}
 use Rattle.amdl_lexer.specs.declared.lexing.LexRefusal.{LexRefusal}
 use Rattle.amdl_lexer.specs.declared.lexing.LexRefusal.TheVariants.{BadByte, WordTooLong, TooManyTokens, NoMemory}
-use Rattle.amdl_lexer.proofs.Lexemes.{lexeme_some, overlong_lexeme}
-use Rattle.amdl_lexer.proofs.Pieces.{IsStuck, end_stuck, nothing_stuck, overlong_stuck, nothing_not_overlong, stuck_has_most, stuck_alike}
-
-end_of : (text : List ℕ) → drop (length text) text ≡ []
-end_of text = drop_all (length text) text (omega arith)
-
-whole_stuck : (text : List ℕ) → IsStuck (drop (length text) text)
-whole_stuck text = subst IsStuck (sym (end_of text)) end_stuck
+use Rattle.amdl_lexer.proofs.Lexemes.{overlong_lexeme}
+use Rattle.amdl_tree.proofs.PieceLemmas.{IsStuck, end_of, whole_stuck, whole_alike, stuck_has_most, stuck_alike}
+use Rattle.amdl_lexer.proofs.Pieces.{nothing_stuck, overlong_stuck, nothing_not_overlong}
 
 pub lists_alike : (text : List ℕ) (one other : List Lexed) → IsLexed text one → IsLexed text other → one ≡ other
-lists_alike text one other p q =
-    (stuck_alike text (length text) (length text) one other p.read q.read (whole_stuck text) (whole_stuck text)).1
+lists_alike text one other p q = whole_alike text one other p.read q.read
 
 -- a text that stops is not read as a whole, nor with too many tokens, and stops at one place
 module _ (Fault : List ℕ → Type 0) (stuck : (text : List ℕ) → Fault text → IsStuck text) where

@@ -7,12 +7,14 @@ use Rattle.std.proofs.lemmas.Slice.Eq.{bytes_eq-Decides}
 use Rattle.std.proofs.lemmas.List.{length-drop, length_push, take_rest}
 use Rattle.amdl_tree.specs.Word.{IsWord, starts_word, goes_on_with_word, spelling_of_reserved}
 use Rattle.amdl_tree.specs.Token.{spelling_of_sign, is_digit, IsNumber, value_of_digits, SpellsToken}
+use Rattle.amdl_tree.specs.Lexical.{is_blank, Reads, lexed}
 use Rattle.amdl_tree.specs.declared.reserved.Reserved.{Reserved}
 use Rattle.amdl_tree.specs.declared.token.Sign.{Sign}
 use Rattle.amdl_tree.specs.declared.token.Token.{Token}
 use Rattle.amdl_tree.specs.declared.token.Token.TheVariants.{Word, Number, Key, Sign as Signed}
 use Rattle.amdl_tree.specs.declared.token.Lexed.{Lexed}
-use Rattle.amdl_lexer.specs.Reading.{is_blank, Reads, lexed}
+use Rattle.amdl_tree.proofs.ReservedWords.{table, word_of, word_of-spelling}
+use Rattle.amdl_tree.proofs.LexemeLemmas.{signs, sign_of, sign_found}
 use Rattle.amdl_lexer.specs.Answer.{IsOverlong, StartsNothing, StartsOverlong}
 use Rattle.amdl_lexer.specs.Sign.{StartsNoSign, IsLongestSign}
 use Rattle.amdl_lexer.specs.Front.{IsFront}
@@ -21,7 +23,6 @@ use Rattle.amdl_lexer.specs.declared.front.Front.{Front}
 use Rattle.amdl_lexer.specs.declared.front.Front.TheVariants as fronts
 use Rattle.amdl_lexer.specs.declared.lexing.LexRefusal.{LexRefusal}
 use Rattle.amdl_lexer.specs.declared.lexing.LexRefusal.TheVariants.{BadByte, WordTooLong, TooManyTokens}
-use Rattle.amdl_lexer.proofs.Lexemes.{word_of, word_found, sign_of, sign_found, words, signs}
 use Rattle.amdl_lexer.proofs.Signs.{two_front, one_front, last_front, sign_front}
 use Rattle.amdl_lexer.proofs.Fronts.{in_line, blank_front, comment_front, word_begun, word_good, number_begun, number_good, overlong_front, nothing_front}
 use Rattle.amdl_lexer.proofs.Pieces.{reads_none, step_gap, step_token}
@@ -41,10 +42,10 @@ find_passes test (y ∷ ys) x e =
 -- which reserved word, or which sign, the bytes are
 word_decided : (bytes : List ℕ) (found : Option Reserved) → word_of bytes ≡ found → MatchOption found ((word : Reserved) → bytes ≢ spelling_of_reserved word) (λ word. bytes ≡ spelling_of_reserved word)
 word_decided bytes None e = λ word s.
-    let found : word_of bytes ≡ Some word = ap word_of s ∙ word_found word in
+    let found : word_of bytes ≡ Some word = ap word_of s ∙ word_of-spelling word in
     cc
 word_decided bytes (Some word) e =
-    (bytes_eq-Decides bytes (spelling_of_reserved word)).0 (find_passes (λ w. bytes_eq bytes (spelling_of_reserved w)) words word e)
+    (bytes_eq-Decides bytes (spelling_of_reserved word)).0 (find_passes (λ w. bytes_eq bytes (spelling_of_reserved w)) table word e)
 
 sign_decided : (bytes : List ℕ) (found : Option Sign) → sign_of bytes ≡ found → MatchOption found ((sign : Sign) → spelling_of_sign sign ≢ bytes) (λ sign. spelling_of_sign sign ≡ bytes)
 sign_decided bytes None e = λ sign s.

@@ -7,14 +7,15 @@ use Rattle.std.proofs.lemmas.List.Folds.{length-prefix_len}
 use Rattle.std.proofs.lemmas.List.Sums.{prefix_len-le-length}
 use Rattle.amdl_tree.specs.Word.{IsWord, starts_word, goes_on_with_word}
 use Rattle.amdl_tree.specs.Token.{is_digit, IsNumber, SpellsToken}
+use Rattle.amdl_tree.specs.Lexical.{is_blank, IsComment, EndsLine, IsLexeme, a_word, a_number, a_sign}
 use Rattle.amdl_tree.specs.declared.token.Token.{Token}
-use Rattle.amdl_lexer.specs.Reading.{is_blank, IsComment, EndsLine, IsLexeme, a_word, a_number, a_sign}
+use Rattle.amdl_tree.proofs.WordLemmas.{start_goes_on}
+use Rattle.amdl_tree.proofs.RunLemmas.{StopsRun, run_passes, run_stops}
+use Rattle.amdl_tree.proofs.LexemeLemmas.{word_some, number_some, word_longest, number_longest}
 use Rattle.amdl_lexer.specs.Answer.{StartsNothing, StartsOverlong, IsOverlong}
 use Rattle.amdl_lexer.specs.Sign.{StartsNoSign}
 use Rattle.amdl_lexer.specs.Front.{IsFront}
 use Rattle.amdl_lexer.specs.declared.front.Front.TheVariants.{Gap, Good}
-use Rattle.amdl_lexer.proofs.Runs.{StopsRun, run_passes, run_stops}
-use Rattle.amdl_lexer.proofs.Lexemes.{start_goes_on, word_some, number_some, word_longest, number_longest}
 
 pub blank_front : (text : List ℕ) → 0 < length text → is_blank (get_or text 0 0) ≡ true → IsFront text (Gap 1)
 blank_front [] some blank = absurd (omega arith)

@@ -4,5 +4,4 @@ pub mod Fronts
 pub mod Lexemes
 pub mod Numbers
 pub mod Pieces
-pub mod Runs
 pub mod Signs

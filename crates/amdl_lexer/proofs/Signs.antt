@@ -4,10 +4,10 @@ use Rattle.std.proofs.lemmas.List.{take_at, drop_at, length-append}
 use Rattle.amdl_tree.specs.Token.{spelling_of_sign}
 use Rattle.amdl_tree.specs.declared.token.Sign.{Sign}
 use Rattle.amdl_tree.specs.declared.token.Token.TheVariants.{Sign as Signed}
+use Rattle.amdl_tree.proofs.LexemeLemmas.{sign_some, sign_short, sign_longest}
 use Rattle.amdl_lexer.specs.Sign.{StartsNoSign, IsLongestSign}
 use Rattle.amdl_lexer.specs.Front.{IsFront}
 use Rattle.amdl_lexer.specs.declared.front.Front.TheVariants.{Good}
-use Rattle.amdl_lexer.proofs.Lexemes.{sign_some, sign_short, sign_longest}
 
 -- a front of one or two bytes
 front_of_two : (s behind : List ℕ) (a b : ℕ) (bytes : List ℕ) → 0 < length s → length s ≤ 2 → a ∷ b ∷ bytes ≡ s ++ behind → (s ≡ a ∷ []) ⊎ (s ≡ a ∷ b ∷ [])
@@ -80,5 +80,5 @@ sign_front text sign size here n =
         within = omega (arith, ap length here.whole, length-append (spelling_of_sign sign) here.rest);
       },
       front,
-      rw (front, rest) (sign_longest text sign here),
+      rw (front, rest) (sign_longest sign here.rest (λ other behind e. here.longest other behind (here.whole ∙ e))),
     )

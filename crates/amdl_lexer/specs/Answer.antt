@@ -2,8 +2,8 @@
 use Rattle.std.specs.Prelude.{◌≡◌, ◌≢◌, ◌≤◌, ◌<◌, ℕ, false, List, [], ◌∷◌, ◌++◌, ◌⊎◌, length, drop, Result, Err}
 use Rattle.amdl_tree.specs.Word.{IsWord}
 use Rattle.amdl_tree.specs.Token.{IsNumber}
+use Rattle.amdl_tree.specs.Lexical.{is_blank, IsLexeme, Reads}
 use Rattle.amdl_tree.specs.declared.token.Lexed.{Lexed}
-use Rattle.amdl_lexer.specs.Reading.{is_blank, IsLexeme, Reads}
 use Rattle.amdl_lexer.specs.declared.lexing.LexRefusal.{LexRefusal}
 use Rattle.amdl_lexer.specs.declared.lexing.LexRefusal.TheVariants.{BadByte, WordTooLong, TooManyTokens, NoMemory}
 

@@ -1,7 +1,7 @@
 -- What stands at the front of a text.
 use Rattle.std.specs.Prelude.{◌≤◌, ◌<◌, ℕ, List, length, take, drop}
 use Rattle.amdl_tree.specs.Token.{SpellsToken}
-use Rattle.amdl_lexer.specs.Reading.{IsGap, IsLongest}
+use Rattle.amdl_tree.specs.Lexical.{IsGap, IsLongest}
 use Rattle.amdl_lexer.specs.Answer.{StartsNothing, StartsOverlong}
 use Rattle.amdl_lexer.specs.declared.front.Front.{Front}
 use Rattle.amdl_lexer.specs.declared.front.Front.TheVariants.{Gap, Good, Overlong, Nothing}

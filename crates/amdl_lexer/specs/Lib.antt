@@ -1,5 +1,4 @@
 pub mod Answer
 pub mod Front
 pub mod Laws
-pub mod Reading
 pub mod Sign

@@ -2,8 +2,8 @@ ghost use Rattle.std.specs.Prelude.{◌≡◌, ◌≢◌, ◌≤◌, ◌<◌, �
 ghost use Rattle.std.specs.List.{prefix_len, list_all};
 ghost use Rattle.amdl_tree.specs.Word.{IsWord, starts_word, goes_on_with_word};
 ghost use Rattle.amdl_tree.specs.Token.{is_digit, IsNumber, value_of_digits, spelling_of_sign, SpellsToken};
+ghost use Rattle.amdl_tree.specs.Lexical.{is_blank};
 ghost use Rattle.amdl_tree.specs.declared.token.Sign.{Sign};
-ghost use Rattle.amdl_lexer.specs.Reading.{is_blank};
 ghost use Rattle.amdl_lexer.specs.Answer.{IsOverlong};
 ghost use Rattle.amdl_lexer.specs.Sign.{StartsNoSign, IsLongestSign};
 ghost use Rattle.amdl_lexer.specs.Front.{IsFront};

@@ -2,6 +2,7 @@
 use Rattle.std.specs.Prelude.{All, ◌≡◌, ◌<◌, ◌≤◌, ◌+◌, ℕ, List, ◌++◌, ◌⊎◌, length, map, take, Result, Ok, Err, ⊤}
 use Rattle.amdl_tree.specs.Spelling.{spell}
 use Rattle.amdl_tree.specs.WellBuilt.{IsWellBuilt, IsShaped}
+pub use Rattle.amdl_tree.specs.Lexical.{token_of}
 use Rattle.amdl_tree.specs.declared.token.Lexed.{Lexed}
 use Rattle.amdl_tree.specs.Word.{IsName}
 use Rattle.amdl_tree.specs.declared.token.Token.{Token}
@@ -10,10 +11,7 @@ use Rattle.amdl_tree.specs.declared.tree.Tree.{Tree}
 use Rattle.amdl_parser.specs.declared.refusal.SyntaxRefusal.{SyntaxRefusal}
 use Rattle.amdl_parser.specs.declared.refusal.SyntaxRefusal.TheVariants.{Syntax, Deep, NoMemory}
 
--- the token without its place
-abbrev pub token_of : Lexed → Token
-token_of lexed = lexed.token
-
+-- the tokens without their places
 abbrev pub tokens_of : List Lexed → List Token
 tokens_of = map token_of
 

@@ -4,12 +4,16 @@ pub mod DepthLemmas
 pub mod DerivationLemmas
 pub mod EqualityLemmas
 pub mod FitsLemmas
-pub mod LayoutLemmas
-mod NamePadding
+pub mod LexemeLemmas
 pub mod LineLemmas
+mod NamePadding
 pub mod OnceLemmas
+pub mod PartLemmas
+pub mod PieceLemmas
 pub mod ReservedWords
+pub mod RunLemmas
 pub mod SpellingLemmas
 pub mod SpellingOnce
+pub mod StandLemmas
 pub mod TreeOnce
 pub mod WordLemmas

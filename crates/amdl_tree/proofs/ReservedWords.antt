@@ -27,13 +27,14 @@ none_of_them None bytes words Q listed all =
     λ word e. All-contains (λ other. bytes ≢ spelling_of_reserved other) words word all (listed word (ap length (sym e))) e
 none_of_them (Some word) bytes words Q listed found = found
 
-abbrev table : List Reserved
+-- all of them
+abbrev pub table : List Reserved
 table = Network ∷ Kind ∷ Field ∷ Middlebox ∷ Port ∷ Relation ∷ On ∷ Host ∷ Box ∷ With ∷ Link ∷ Sends ∷ Forbid ∷ Insert ∷ Remove ∷ Output ∷ Abort ∷ If ∷ Fi ∷ Pick ∷ In ∷ Has ∷ Not ∷ And ∷ Or ∷ True ∷ Add ∷ Drop ∷ Swap ∷ Verdict ∷ Invariant ∷ []
 
-abbrev word_of : List ℕ → Option Reserved
+abbrev pub word_of : List ℕ → Option Reserved
 word_of bytes = find (λ word. bytes_eq bytes (spelling_of_reserved word)) table
 
-word_of-spelling : (word : Reserved) → word_of (spelling_of_reserved word) ≡ Some word
+pub word_of-spelling : (word : Reserved) → word_of (spelling_of_reserved word) ≡ Some word
 word_of-spelling Network = refl
 word_of-spelling Kind = refl
 word_of-spelling Field = refl

@@ -6,7 +6,7 @@ use Rattle.std.proofs.lemmas.List.Elements.{All-contains}
 use Rattle.std.proofs.lemmas.List.Sums.{AllPass-from_list_all}
 use Rattle.amdl_tree.specs.Word.{IsName, IsWord, EndsWord, starts_word, goes_on_with_word}
 
-start_goes_on : (byte : ℕ) → starts_word byte ≡ true → goes_on_with_word byte ≡ true
+pub start_goes_on : (byte : ℕ) → starts_word byte ≡ true → goes_on_with_word byte ≡ true
 start_goes_on byte starts = rw starts refl
 
 -- each byte of a word goes on with a word

@@ -3,12 +3,14 @@ use Rattle.std.specs.Prelude.{◌≡◌, ◌↔◌, ◌≤◌, Bool, true, ℕ, 
 use Rattle.std.specs.List.{All}
 use Rattle.amdl_tree.specs.Word.{IsWord, EndsWord, spelling_of_reserved}
 use Rattle.amdl_tree.specs.Layout.{layout_of_tree}
-use Rattle.amdl_tree.specs.WellBuilt.{OneOrMore, IsBuiltEqual, IsBuiltEnd, LitLayer, GuardLayer, StmtLayer, AlternativeLayer, IsBuiltLit, IsBuiltGuard, IsBuiltStmt, IsBuiltAlternative, IsBuiltClass, IsBuiltItem, ItemFits, IsWellBuilt, IsShaped, IsFlat}
+use Rattle.amdl_tree.specs.WellBuilt.{OneOrMore, IsBuiltEqual, IsBuiltEnd, LitLayer, GuardLayer, StmtLayer, AlternativeLayer, IsBuiltLit, IsBuiltGuard, IsBuiltStmt, IsBuiltAlternative, IsBuiltClass, IsBuiltItem, ItemFits, IsWellBuilt, IsShaped}
 use Rattle.amdl_tree.specs.Spelling.{spell_of_lit, spell_of_guard, spell_of_statement, spell_of_statements, spell_of_class, spell_of_pattern, spell_of_end, spell_of_item, spell}
+use Rattle.amdl_tree.specs.Lexical.{StandsFor}
 use Rattle.amdl_tree.specs.GoesOn.{Once, never, goes_guard, goes_pattern, goes_end, starts_statement, starts_item}
 use Rattle.amdl_tree.specs.Depth.{depth_of_item, depth_of_tree}
 use Rattle.amdl_tree.specs.Derivation.{IsDerivable}
 use Rattle.amdl_tree.specs.declared.reserved.Reserved.{Reserved}
+use Rattle.amdl_tree.specs.declared.token.Token.{Token}
 use Rattle.amdl_tree.specs.declared.guard.Guard.{Guard}
 use Rattle.amdl_tree.specs.declared.guard.Lit.{Lit}
 use Rattle.amdl_tree.specs.declared.guard.Lit.TheViews.{out-Lit}
@@ -18,9 +20,17 @@ use Rattle.amdl_tree.specs.declared.statement.Stmt.TheViews.{out-Stmt}
 use Rattle.amdl_tree.specs.declared.tree.Item.{Item}
 use Rattle.amdl_tree.specs.declared.tree.Tree.{Tree}
 
--- no two trees that texts can spell have one layout, as far as they have no boxes and no classes
+-- a text stands for at most one token list
+abbrev pub StandsOnce : Type 0
+StandsOnce = (text : List ℕ) (tokens others : List Token) → StandsFor text tokens → StandsFor text others → tokens ≡ others
+
+-- no two trees that texts can spell have one layout
 abbrev pub LayoutIsOneToOne : Type 0
-LayoutIsOneToOne = (t u : Tree) → IsFlat t → IsFlat u → IsWellBuilt t → IsWellBuilt u → layout_of_tree t ≡ layout_of_tree u → t ≡ u
+LayoutIsOneToOne = (t u : Tree) → IsWellBuilt t → IsWellBuilt u → layout_of_tree t ≡ layout_of_tree u → t ≡ u
+
+-- the layout of a tree that a text can spell is read as the spelling of the tree
+abbrev pub LayoutStands : Type 0
+LayoutStands = (tree : Tree) → IsWellBuilt tree → StandsFor (layout_of_tree tree) (spell tree)
 
 -- no two trees that texts can spell have one spelling
 abbrev pub SpellingIsOneToOne : Type 0

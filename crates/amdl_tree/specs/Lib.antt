@@ -6,6 +6,7 @@ pub mod formers
 pub mod GoesOn
 pub mod Laws
 pub mod Layout
+pub mod Lexical
 pub mod NameBytes
 pub mod Spelling
 pub mod Token

@@ -136,13 +136,3 @@ pub record IsWellBuilt (tree : Tree) : Type 0 where
 pub record IsShaped (tree : Tree) : Type 0 where
   pub named : IsName tree.name
   pub items : All (ItemFits 32) tree.items
-
--- an item of neither of the forms that boxes need
-abbrev pub IsFlatItem : Item → Type 0
-IsFlatItem (OfClass class) = ⊥
-IsFlatItem (Instance name class first) = ⊥
-IsFlatItem item = ⊤
-
--- a tree without boxes and their classes
-abbrev pub IsFlat : Tree → Type 0
-IsFlat tree = All IsFlatItem tree.items

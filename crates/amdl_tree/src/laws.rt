@@ -1,6 +1,6 @@
 //! Laws over the definitions, each the contract of a function that does nothing.
 ghost use Rattle.std.specs.Prelude.{◌≡◌};
-ghost use Rattle.amdl_tree.specs.Laws.{LayoutIsOneToOne, SpellingIsOneToOne, PartsAreSpelledOnce, BuiltByParts, FitsByDepth, ShapedByDepth, WordsSplit, ReservedDiffer, DerivableIsLeast};
+ghost use Rattle.amdl_tree.specs.Laws.{StandsOnce, LayoutIsOneToOne, LayoutStands, SpellingIsOneToOne, PartsAreSpelledOnce, BuiltByParts, FitsByDepth, ShapedByDepth, WordsSplit, ReservedDiffer, DerivableIsLeast};
 ghost use Rattle.amdl_tree.specs.Layout.{layout_of_tree};
 ghost use Rattle.amdl_tree.specs.Spelling.{spell};
 ghost use Rattle.amdl_tree.specs.WellBuilt.{IsWellBuilt};
@@ -8,9 +8,20 @@ ghost use Rattle.amdl_tree.specs.Depth.{depth_of_tree};
 ghost use Rattle.amdl_tree.specs.Example.{wire, text_of_wire, tokens_of_wire, valueless};
 ghost use Rattle.amdl_tree.specs.ExampleClass.{gated, text_of_gated, tokens_of_gated};
 
-/// No two trees without classes and boxes that texts can spell have one layout.
+/// A text stands for at most one token list.
+pub fn text_stands_once()
+    ensures { StandsOnce }
+{}
+
+/// No two trees that texts can spell have one layout.
 pub fn layout_is_one_to_one()
     ensures { LayoutIsOneToOne }
+{}
+
+/// The canonical layout of a tree that a text can spell, read as a text, is the spelling of the tree, each token the longest
+/// that starts at its place.
+pub fn layout_stands_for_spelling()
+    ensures { LayoutStands }
 {}
 
 /// No two trees that texts can spell have one spelling.

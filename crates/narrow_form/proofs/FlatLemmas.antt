@@ -1,8 +1,9 @@
 -- Trees in the narrow form have no boxes and no classes.
 use Rattle.std.proofs.Common.{ℕ, List, ◌++◌, map, slice_index_or, sym, subst}
+use Rattle.std.specs.Prelude.{⊤}
 use Rattle.std.specs.List.{All}
 use Rattle.std.proofs.lemmas.List.Elements.{All-cons, All-append, All-map, All-weaker, All-from_recursion}
-use Rattle.amdl_tree.specs.WellBuilt.{IsBuiltItem, IsWellBuilt, IsFlatItem, IsFlat}
+use Rattle.amdl_tree.specs.WellBuilt.{IsBuiltItem, IsWellBuilt}
 use Rattle.amdl_tree.specs.declared.tree.Item.{Item}
 use Rattle.amdl_tree.specs.declared.tree.Item.TheVariants.{Kind, Field, Class as OfClass, Host, Instance, Link, Sends, Forbid}
 use Rattle.amdl_tree.specs.declared.tree.Tree.{Tree}
@@ -10,15 +11,11 @@ use Rattle.layout_reader.specs.Flat.{IsFlatBuilt, IsFlatTree}
 use Rattle.narrow_form.specs.declared.parts.Parts.{Parts}
 use Rattle.narrow_form.specs.NarrowForm.{IsNarrow, field_item, wiring_of, items_of}
 
-flat_item : (item : Item) → IsFlatBuilt item → IsFlatItem item
-flat_item (Kind name values) built = tt
-flat_item (Field name kind) built = tt
-flat_item (OfClass class) built = built
-flat_item (Host name) built = tt
-flat_item (Instance name class first) built = built
-flat_item (Link one two) built = tt
-flat_item (Sends host pattern) built = tt
-flat_item (Forbid host pattern) built = tt
+-- an item of neither of the forms that boxes need
+abbrev IsFlatItem : Item → Type 0
+IsFlatItem (OfClass class) = ⊥
+IsFlatItem (Instance name class first) = ⊥
+IsFlatItem item = ⊤
 
 built_item : (item : Item) → IsFlatBuilt item → IsBuiltItem item
 built_item (Kind name values) built = built
@@ -40,9 +37,6 @@ both_item (Link one two) flat built = built
 both_item (Sends host pattern) flat built = built
 both_item (Forbid host pattern) flat built = built
 
-pub flat_of : (tree : Tree) → IsFlatTree tree → IsFlat tree
-flat_of tree flat = All-weaker IsFlatBuilt IsFlatItem flat_item tree.items flat.items
-
 pub built_of : (tree : Tree) → IsFlatTree tree → IsWellBuilt tree
 built_of tree flat = record { named = flat.named; items = All-weaker IsFlatBuilt IsBuiltItem built_item tree.items flat.items }
 
@@ -57,7 +51,7 @@ flat_parts parts =
     All-cons IsFlatItem (Kind parts.kind parts.values) (map (field_item parts.kind) parts.fields ++ wiring_of parts) tt
     (All-append IsFlatItem (map (field_item parts.kind) parts.fields) (wiring_of parts) (flat_fields parts.kind parts.fields) (flat_wiring parts))
 
-pub narrow_flat : (tree : Tree) → IsNarrow tree → IsFlat tree
+narrow_flat : (tree : Tree) → IsNarrow tree → All IsFlatItem tree.items
 narrow_flat tree narrow = subst (All IsFlatItem) (sym narrow.items) (flat_parts narrow.parts)
 
 pub narrow_flat_tree : (tree : Tree) → IsNarrow tree → IsFlatTree tree

@@ -1,6 +1,6 @@
 use Rattle.std.proofs.Common.{◌+◌, ◌++◌, ◌∷◌, [], length, arith, subst, sym, ap}
 use Rattle.std.proofs.lemmas.List.{length_push}
-use Rattle.amdl_lexer.specs.Reading.{lexed, Reads}
+use Rattle.amdl_tree.specs.Lexical.{lexed, Reads}
 use Rattle.amdl_lexer.proofs.Pieces.{step_gap, step_token}
 use Rattle.amdl_lexer.proofs.lexing.read.Goals as goal
 

@@ -1,5 +1,5 @@
 use Rattle.std.proofs.Common.{◌≤◌, ◌-◌, length}
-use Rattle.amdl_lexer.specs.Reading.{Reads}
+use Rattle.amdl_tree.specs.Lexical.{Reads}
 use Rattle.amdl_lexer.proofs.lexing.read.Given as goal
 
 -- the bytes before the place are read as the tokens so far, which are not too many

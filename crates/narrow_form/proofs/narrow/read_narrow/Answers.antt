@@ -2,7 +2,7 @@ use Rattle.std.proofs.Common.{◌≡◌, ◌≢◌, ℕ, List, Option, Some, Non
 use Rattle.amdl_tree.specs.Laws.{LayoutIsOneToOne}
 use Rattle.amdl_tree.specs.Layout.{layout_of_tree}
 use Rattle.layout_reader.specs.Flat.{IsFlatTree}
-use Rattle.narrow_form.proofs.FlatLemmas.{flat_of, built_of, narrow_flat, narrow_flat_tree}
+use Rattle.narrow_form.proofs.FlatLemmas.{built_of, narrow_flat_tree}
 use Rattle.amdl_tree.specs.declared.list.NoMemory.{NoMemory}
 use Rattle.amdl_tree.specs.declared.tree.Tree.{Tree}
 use Rattle.net_plan.specs.declared.plan.Plan.{Plan}
@@ -15,7 +15,7 @@ of_text : LayoutIsOneToOne → (text : List ℕ) (tree : Tree) → IsFlatTree tr
     IfOk result (λ found. MatchOption found (IsNarrow tree → ⊥) (λ network. IsNarrow tree × (network ≡ net tree))) →
     IfOk result (λ found. MatchOption found ((other : Tree) → IsNarrow other → layout_of_tree other ≢ text) (IsNetworkOf text))
 of_text alike text tree flat layout (Ok None) none =
-    λ other narrow e. none (subst IsNarrow (alike other tree (narrow_flat other narrow) (flat_of tree flat) narrow.built (built_of tree flat) (e ∙ sym layout)) narrow)
+    λ other narrow e. none (subst IsNarrow (alike other tree narrow.built (built_of tree flat) (e ∙ sym layout)) narrow)
 of_text alike text tree flat layout (Ok (Some plan)) found = (tree, found.0, layout, found.1)
 of_text alike text tree flat layout (Err e) failed = failed
 

@@ -1,5 +1,5 @@
 -- How a text is read: blanks, comments and tokens in turn, each token the longest that starts at its place.
-use Rattle.std.specs.Prelude.{◌≡◌, ◌≤◌, ◌+◌, ℕ, Bool, true, ◌||◌, ◌==◌, not, List, [], ◌∷◌, ◌++◌, ◌⊎◌, length, take, drop}
+use Rattle.std.specs.Prelude.{◌≡◌, ◌≤◌, ◌+◌, ℕ, Bool, true, ◌||◌, ◌==◌, not, List, [], ◌∷◌, ◌++◌, ◌⊎◌, length, take, drop, map}
 use Rattle.std.specs.List.{list_all, flat_map}
 use Rattle.amdl_tree.specs.Word.{IsWord}
 use Rattle.amdl_tree.specs.Token.{spelling_of_sign, IsNumber, SpellsToken}
@@ -74,3 +74,11 @@ pub record Reads (text : List ℕ) (at : ℕ) (tokens : List Lexed) : Type 0 whe
   pub front : take at text ≡ bytes_of pieces
   pub stand : AllStand pieces (drop at text)
   pub made : tokens ≡ tokens_from 0 pieces
+
+-- a token without its place
+abbrev pub token_of : Lexed → Token
+token_of lexed = lexed.token
+
+-- the whole text is read as these tokens, wherever they stand in it
+abbrev pub StandsFor : List ℕ → List Token → Type 0
+StandsFor text tokens = (lexeds : List Lexed) × Reads text (length text) lexeds × (map token_of lexeds ≡ tokens)
