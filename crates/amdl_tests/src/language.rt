@@ -1,6 +1,7 @@
-//! Network texts of the whole language, read by the lexer and the parser.
+//! Network texts of the whole language, read by the lexer and the parser, and written back.
 use crate::networks;
 use crate::spelling::spelling_of;
+use amdl_format::format;
 use amdl_lexer::lex;
 use amdl_parser::{SyntaxRefusal, parse};
 use amdl_tree::{Lexed, List, NoMemory, Token, Tree};
@@ -43,22 +44,41 @@ fn is_read(alloc: Global, text: &str) -> Result<bool, NoMemory> {
 
 #[test]
 fn networks_are_read(rt: HostRuntime) -> Result<(), NoMemory> {
-    let texts = [
-        networks::PAIR,
-        networks::PAIR2,
-        networks::WIRE,
-        networks::PUZZLE,
-        networks::TWINS,
-        networks::EARLY,
-        networks::ONCE,
-        networks::LATE,
-        networks::RING,
-        networks::STOP,
-        networks::OFFICE,
-    ];
-    for text in texts {
+    for text in networks::ALL {
         assert!(rt; is_read(rt.alloc(), text)?);
     }
+    Ok(())
+}
+
+// Whether a text is read as a tree that is written so.
+fn is_written(alloc: Global, text: &str, layout: &str) -> Result<bool, NoMemory> {
+    let Some(tokens) = tokens_of(alloc, text.as_bytes()) else {
+        return Ok(false);
+    };
+    if tokens.as_slice().len() > 1_000_000 {
+        return Ok(false);
+    }
+    let mut out = Vec::new(alloc);
+    match parse(alloc, tokens.as_slice()) {
+        Ok(tree) => format(&tree, &mut out)?,
+        Err(_) => return Ok(false),
+    }
+    Ok(out.as_slice() == layout.as_bytes())
+}
+
+#[test]
+fn networks_are_written_back(rt: HostRuntime) -> Result<(), NoMemory> {
+    for text in networks::ALL {
+        assert!(rt; is_written(rt.alloc(), text, text)?);
+    }
+    Ok(())
+}
+
+#[test]
+fn layout_is_canonical(rt: HostRuntime) -> Result<(), NoMemory> {
+    let text = "network x;type A={a,b};field f:A; # no more\r\n\t";
+    let layout = "network x;\ntype A = {a, b};\nfield f : A;\n";
+    assert!(rt; is_written(rt.alloc(), text, layout)?);
     Ok(())
 }
 

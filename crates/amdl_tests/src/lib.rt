@@ -1,4 +1,4 @@
-//! Tests of the one call, over files and sinks in memory and over the real ones, and of the lexer with the parser.
+//! Tests of the one call, over files and sinks in memory and over the real ones, and of lexer, parser and formatter together.
 #![tactic(auto)]
 
 #[cfg(test)]

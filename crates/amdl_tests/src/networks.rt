@@ -1,4 +1,8 @@
-//! Networks of the whole language.
+//! Networks of the whole language, each in its canonical layout.
+
+pub(crate) const ALL: [&str; 11] = [
+    PAIR, PAIR2, WIRE, PUZZLE, TWINS, EARLY, ONCE, LATE, RING, STOP, OFFICE,
+];
 
 pub(crate) const PAIR: &str = "network pair;
 type Addr = {a, b};

@@ -1,0 +1,4 @@
+mod FormLemmas
+mod KeepsLemmas
+mod LineLemmas
+mod ListLemmas

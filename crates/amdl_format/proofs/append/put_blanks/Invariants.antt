@@ -1,0 +1,6 @@
+use Rattle.std.proofs.Common.{◌≡◌, ◌++◌}
+use Rattle.amdl_format.specs.Lines.{blanks}
+use Rattle.amdl_format.proofs.append.put_blanks.Given as goal
+
+abbrev pub invariant-loop : goal.invariant-loop
+invariant-loop l = l.out.items ≡ l.fn.out.items ++ blanks l.counter
