@@ -8,3 +8,4 @@ pub mod Writing
 pub mod Failing
 pub mod Naming
 pub mod Memory
+pub mod Opened

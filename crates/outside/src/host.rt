@@ -1,13 +1,13 @@
-// The system's files and standard output behind the two traits. They tell nothing of content.
+// The system's files and standard output behind the two traits. They tell nothing of content, so each call is the opening and
+// one call of what does all the rest over any reader and writer.
 ghost use Rattle.std.specs.Prelude.{◌≡◌, ◌≢◌, ◌↔◌, ◌+◌, ◌≤◌, ℕ, length, None, OnOk, OnErr, IsErrOf};
 ghost use Rattle.std.specs.IoError.{error_kind};
 ghost use Rattle.outside.specs.Host.{faults_after_load, faults_after_store, faults_after_write};
 ghost use Rattle.outside.specs.Files.{HasLoaded, HasPartly};
 
-use super::streams;
+use super::opened::{load_opened, put_counted, store_opened};
 use super::traits::{Files, LoadFault, Sink, SinkFault, StoreFault};
 use std::alloc::Global;
-use std::io::{Error, ErrorKind};
 use std::marker::Model;
 use std::{fs, io, rt};
 
@@ -58,75 +58,14 @@ impl<R: rt::Files> Files for HostFiles<'_, R> {
         ensures partly { OnErr result
             (HasPartly None name.now limit into.old.items into.new.items) }
     {
-        let answer = load_file(self.rt, name, limit, into);
-        self.faults = count_after_load(self.faults, &answer);
-        answer
+        load_opened(&mut fs::open(self.rt, name), limit, into, &mut self.faults)
     }
 
     fn store(&mut self, _alloc: Global, name: &str, bytes: &[u8]) -> Result<(), StoreFault>
         ensures counted { self.new ≡ faults_after_store self.old result }
         ensures later { self.old ≤ self.new }
     {
-        let answer = store_file(self.rt, name, bytes);
-        self.faults = count_after_write(self.faults, &answer);
-        Ok(answer?)
-    }
-}
-
-// Appends a file of the system. What is opened is read no further than the limit and one byte.
-fn load_file<R: rt::Files>(
-    rt: &R,
-    name: &str,
-    limit: usize,
-    into: &mut Vec<u8>,
-) -> Result<(), LoadFault>
-    ensures loaded { OnOk result (HasLoaded None name.now limit into.old.items into.new.items) }
-    ensures too_long { IsErrOf result LoadFault.TooLong →
-        length into.new.items ≡ length into.old.items + limit }
-    ensures partly { OnErr result (HasPartly None name.now limit into.old.items into.new.items) }
-{
-    let mut file = fs::open(rt, name).map_err(|error| open_fault(&error))?;
-    streams::read_all(&mut file, limit, into)
-}
-
-// What opening a file answers that isn't opened.
-fn open_fault(error: &Error) -> LoadFault
-    ensures missing { (result ≡ LoadFault.Missing) ↔ (error_kind error.now ≡ ErrorKind.NotFound) }
-    ensures no_memory { (result ≡ LoadFault.NoMemory) ↔ (error_kind error.now ≡ ErrorKind.OutOfMemory) }
-    ensures opened { result ≢ LoadFault.TooLong }
-{
-    if error.kind() == ErrorKind::NotFound {
-        LoadFault::Missing
-    } else {
-        streams::read_fault(error)
-    }
-}
-
-// Makes a file of the system hold these bytes. It is emptied first.
-fn store_file<R: rt::Files>(rt: &R, name: &str, bytes: &[u8]) -> Result<(), SinkFault> {
-    let mut file = fs::create(rt, name).map_err(|error| streams::write_fault(&error))?;
-    streams::write_all(&mut file, bytes)
-}
-
-// The count after a load: one more where the system failed.
-fn count_after_load(faults: u64, answer: &Result<(), LoadFault>) -> u64
-    ensures counted { result ≡ faults_after_load faults answer.now }
-    ensures later { faults ≤ result }
-{
-    match answer {
-        Err(LoadFault::Failed | LoadFault::Missing) => faults.saturating_add(1),
-        Err(LoadFault::TooLong | LoadFault::NoMemory) | Ok(()) => faults,
-    }
-}
-
-// The count after a store or a put: one more where the system failed.
-fn count_after_write(faults: u64, answer: &Result<(), SinkFault>) -> u64
-    ensures counted { result ≡ faults_after_write faults answer.now }
-    ensures later { faults ≤ result }
-{
-    match answer {
-        Err(SinkFault::Failed) => faults.saturating_add(1),
-        Err(SinkFault::NoMemory) | Ok(()) => faults,
+        store_opened(&mut fs::create(self.rt, name), bytes, &mut self.faults)
     }
 }
 
@@ -163,8 +102,6 @@ impl<R: Print> Sink for HostSink<'_, R> {
         ensures counted { self.new ≡ faults_after_write self.old result }
         ensures later { self.old ≤ self.new }
     {
-        let answer = streams::write_all(&mut io::writer(self.rt), piece);
-        self.faults = count_after_write(self.faults, &answer);
-        answer
+        put_counted(&mut io::writer(self.rt), piece, &mut self.faults)
     }
 }

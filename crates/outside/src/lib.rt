@@ -7,6 +7,7 @@ mod host;
 mod keeping;
 mod laws;
 mod memory;
+mod opened;
 mod streams;
 mod sure;
 mod traits;
@@ -16,6 +17,3 @@ pub use laws::{rise_lasts, rose_where_greater_or_full, set_file_alone_changes};
 pub use memory::{MemoryFiles, MemorySink};
 pub use sure::{SureFiles, SureSink};
 pub use traits::{Files, LoadFault, Sink, SinkFault, StoreFault};
-
-#[cfg(test)]
-mod tests;

@@ -10,7 +10,8 @@ ghost use Rattle.outside.specs.Sink.{AppendsFront};
 use super::failing::FailingCalls;
 use super::keeping::{KeptFiles, front};
 use super::traits::{Files, LoadFault, Sink, SinkFault, StoreFault};
-use std::alloc::{AllocError, Global};
+use amdl_tree::NoMemory;
+use std::alloc::Global;
 use std::marker::Model;
 
 /// Files in memory, of whose loads and stores chosen ones fail.
@@ -47,12 +48,12 @@ impl MemoryFiles {
     }
 
     /// Sets a file. It is no call that counts. Takes time in the number of files and in the bytes.
-    pub fn keep(&mut self, name: &str, bytes: &[u8]) -> Result<(), AllocError>
+    pub fn keep(&mut self, name: &str, bytes: &[u8]) -> Result<(), NoMemory>
         ensures ok { OnOk result
             (self.new ≡ record self.old { files = with_file self.old.files name.now bytes.now }) }
         ensures err { OnErr result (self.new ≡ self.old) }
     {
-        self.files.keep(name, bytes)
+        self.files.keep(name, bytes).map_err(|_| NoMemory)
     }
 
     /// The bytes of a file, or None where there is no such file. Takes time in the number of files.
@@ -67,12 +68,12 @@ impl MemoryFiles {
     ///
     /// What the call moves before it fails is `kept` bytes, or all where there are fewer. An earlier
     /// naming of the same call stays. Takes time in the number of calls that are named.
-    pub fn fail_call(&mut self, call: u32, kept: usize) -> Result<(), AllocError>
+    pub fn fail_call(&mut self, call: u32, kept: usize) -> Result<(), NoMemory>
         ensures ok { OnOk result
             (self.new ≡ record self.old { failing = after_naming self.old.failing call kept }) }
         ensures err { OnErr result (self.new ≡ self.old) }
     {
-        self.failing.name_call(call, kept)
+        self.failing.name_call(call, kept).map_err(|_| NoMemory)
     }
 }
 
@@ -201,12 +202,12 @@ impl MemorySink {
     ///
     /// What the put appends before it fails is `kept` bytes, or all where there are fewer. An earlier
     /// naming of the same put stays. Takes time in the number of puts that are named.
-    pub fn fail_call(&mut self, call: u32, kept: usize) -> Result<(), AllocError>
+    pub fn fail_call(&mut self, call: u32, kept: usize) -> Result<(), NoMemory>
         ensures ok { OnOk result
             (self.new ≡ record self.old { failing = after_naming self.old.failing call kept }) }
         ensures err { OnErr result (self.new ≡ self.old) }
     {
-        self.failing.name_call(call, kept)
+        self.failing.name_call(call, kept).map_err(|_| NoMemory)
     }
 }
 

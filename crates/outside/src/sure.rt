@@ -7,7 +7,8 @@ ghost use Rattle.outside.specs.Files.{FileMap, file_of, with_file};
 
 use super::keeping::KeptFiles;
 use super::traits::{Files, LoadFault, Sink, SinkFault, StoreFault};
-use std::alloc::{AllocError, Global};
+use amdl_tree::NoMemory;
+use std::alloc::Global;
 use std::marker::Model;
 
 /// Files in memory, which fail only for want of memory.
@@ -39,11 +40,11 @@ impl SureFiles {
     }
 
     /// Sets a file. Takes time in the number of files and in the bytes.
-    pub fn keep(&mut self, name: &str, bytes: &[u8]) -> Result<(), AllocError>
+    pub fn keep(&mut self, name: &str, bytes: &[u8]) -> Result<(), NoMemory>
         ensures ok { OnOk result (self.new ≡ with_file self.old name.now bytes.now) }
         ensures err { OnErr result (self.new ≡ self.old) }
     {
-        self.files.keep(name, bytes)
+        self.files.keep(name, bytes).map_err(|_| NoMemory)
     }
 
     /// The bytes of a file, or None where there is no such file. Takes time in the number of files.
