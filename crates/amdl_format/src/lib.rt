@@ -7,7 +7,5 @@ mod guards;
 mod items;
 mod parts;
 mod statements;
-#[cfg(test)]
-mod tests;
 
 pub use formatting::format;

@@ -66,8 +66,8 @@ fn the_form_has_limits(rt: HostRuntime) -> Result<(), Fail> {
     for (values, fields) in [(17, 1), (1, 5), (16, 5)] {
         let text = full(rt.alloc(), values, fields)?;
         let (status, out) = analysis_of(rt.alloc(), text.as_str())?;
-        assert_eq!(rt; status, 3);
-        assert_eq!(rt; out.bytes(), refused);
+        assert_eq!(rt; status, 3, "{values} values, {fields} fields");
+        assert_eq!(rt; out.bytes(), refused, "{values} values, {fields} fields");
     }
     let longest =
         "network abcdefghijklmnopqrstuvwx;\ntype T = {v};\nfield f : T;\nhost p;\nhost q;\nlink q -- p;\nsends q : true;\nforbid q : f = v;\n";

@@ -45,7 +45,7 @@ fn is_read(alloc: Global, text: &str) -> Result<bool, NoMemory> {
 #[test]
 fn networks_are_read(rt: HostRuntime) -> Result<(), NoMemory> {
     for text in networks::ALL {
-        assert!(rt; is_read(rt.alloc(), text)?);
+        assert!(rt; is_read(rt.alloc(), text)?, "{text}");
     }
     Ok(())
 }
@@ -69,16 +69,77 @@ fn is_written(alloc: Global, text: &str, layout: &str) -> Result<bool, NoMemory>
 #[test]
 fn networks_are_written_back(rt: HostRuntime) -> Result<(), NoMemory> {
     for text in networks::ALL {
-        assert!(rt; is_written(rt.alloc(), text, text)?);
+        assert!(rt; is_written(rt.alloc(), text, text)?, "{text}");
     }
     Ok(())
 }
 
+// A text and its canonical layout.
+const LAYOUTS: [(&str, &str, &str); 4] = [
+    (
+        "no line but one, a comment and blanks",
+        "network x;type A={a,b};field f:A; # no more\r\n\t",
+        "network x;\ntype A = {a, b};\nfield f : A;\n",
+    ),
+    ("a host", "network x;host p;", "network x;\nhost p;\n"),
+    (
+        "all items but classes",
+        "network x; type A = { a , b } ; field f : A; host p; link p--g.i; sends p:f=a,g=b; forbid p : true;",
+        "network x;\ntype A = {a, b};\nfield f : A;\nhost p;\nlink p -- g.i;\nsends p : f = a, g = b;\nforbid p : true;\n",
+    ),
+    ("a class and its boxes", CLASS_IN_A_LINE, CLASS),
+];
+
+const CLASS_IN_A_LINE: &str =
+    "network x; middlebox c { port i,o; relation r ( A,A ); on i:{ if has r(f,g) and not(f=a or true)->{ insert r(a); pick y:A in{} } | f!=g->{ abort; } fi remove r(b); output o[f:=g,g:=a]; output o; } } box g:c with r(a,b),r(b,a); box h:c;";
+
+const CLASS: &str = "network x;
+middlebox c {
+  port i, o;
+  relation r(A, A);
+  on i : {
+    if has r(f, g) and not (f = a or true) -> {
+      insert r(a);
+      pick y : A in {
+      }
+    } | f != g -> {
+      abort;
+    } fi
+    remove r(b);
+    output o [f := g, g := a];
+    output o;
+  }
+}
+box g : c with r(a, b), r(b, a);
+box h : c;
+";
+
 #[test]
 fn layout_is_canonical(rt: HostRuntime) -> Result<(), NoMemory> {
-    let text = "network x;type A={a,b};field f:A; # no more\r\n\t";
-    let layout = "network x;\ntype A = {a, b};\nfield f : A;\n";
-    assert!(rt; is_written(rt.alloc(), text, layout)?);
+    for (label, text, layout) in LAYOUTS {
+        assert!(rt; is_written(rt.alloc(), text, layout)?, "{label}");
+    }
+    Ok(())
+}
+
+// What a guard of so many `not`s within an `if` is read as: its refusal, or None.
+fn refusal_of_denials(alloc: Global, denials: u32) -> Result<Option<SyntaxRefusal>, AllocError> {
+    let mut text = Vec::new(alloc);
+    text.extend_from_slice(b"if ")?;
+    for _ in 0..denials {
+        text.extend_from_slice(b"not ")?;
+    }
+    text.extend_from_slice(b"true -> { } fi } }")?;
+    refusal_behind(alloc, HANDLER, text.as_slice())
+}
+
+#[test]
+fn denials_have_a_depth(rt: HostRuntime) -> Result<(), AllocError> {
+    assert_eq!(rt; refusal_of_denials(rt.alloc(), 31)?, None);
+    assert_eq!(rt;
+        refusal_of_denials(rt.alloc(), 32)?,
+        Some(SyntaxRefusal::Deep(45))
+    );
     Ok(())
 }
 
@@ -109,11 +170,14 @@ fn faulty_files(rt: HostRuntime) {
         ("network ;", 1),
         ("network x", 2),
         ("network x host h;", 2),
+        ("network 9;", 1),
+        ("network x; host h; }", 6),
     ];
     for (text, place) in texts {
         assert_eq!(rt;
             refusal_of(rt.alloc(), text.as_bytes()),
-            Some(SyntaxRefusal::Syntax(place))
+            Some(SyntaxRefusal::Syntax(place)),
+            "{text}"
         );
     }
 }
@@ -159,7 +223,8 @@ fn faulty_items(rt: HostRuntime) -> Result<(), AllocError> {
     for (text, place) in texts {
         assert_eq!(rt;
             refusal_behind(rt.alloc(), "network x; ", text.as_bytes())?,
-            Some(SyntaxRefusal::Syntax(place))
+            Some(SyntaxRefusal::Syntax(place)),
+            "{text}"
         );
     }
     Ok(())
@@ -210,7 +275,8 @@ fn faulty_statements(rt: HostRuntime) -> Result<(), AllocError> {
     for (text, place) in texts {
         assert_eq!(rt;
             refusal_behind(rt.alloc(), HANDLER, text.as_bytes())?,
-            Some(SyntaxRefusal::Syntax(place))
+            Some(SyntaxRefusal::Syntax(place)),
+            "{text}"
         );
     }
     Ok(())
@@ -233,6 +299,7 @@ fn refusal_within(
 #[test]
 fn the_thirty_third_level(rt: HostRuntime) -> Result<(), AllocError> {
     let texts = [
+        (0, "if not and", SyntaxRefusal::Syntax(15)),
         (31, "if not", SyntaxRefusal::Deep(138)),
         (31, "if (", SyntaxRefusal::Deep(138)),
         (31, "if and", SyntaxRefusal::Syntax(138)),
@@ -243,7 +310,11 @@ fn the_thirty_third_level(rt: HostRuntime) -> Result<(), AllocError> {
         (32, "fi", SyntaxRefusal::Syntax(141)),
     ];
     for (ifs, text, refusal) in texts {
-        assert_eq!(rt; refusal_within(rt.alloc(), ifs, text)?, Some(refusal));
+        assert_eq!(rt;
+            refusal_within(rt.alloc(), ifs, text)?,
+            Some(refusal),
+            "{text} within {ifs}"
+        );
     }
     Ok(())
 }

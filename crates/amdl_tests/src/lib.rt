@@ -1,15 +1,29 @@
-//! Tests of the one call, over files and sinks in memory and over the real ones, and of lexer, parser and formatter together.
+//! Tests of all crates: of what no clause says, at the top, so that no crate is proved once more for its tests.
 #![tactic(auto)]
 
 #[cfg(test)]
 mod analyse;
 #[cfg(test)]
+mod digits;
+#[cfg(test)]
+mod failing_system;
+#[cfg(test)]
 mod faults;
 #[cfg(test)]
+mod headers;
+#[cfg(test)]
 mod language;
+#[cfg(test)]
+mod memory_and_system;
+#[cfg(test)]
+mod narrow_texts;
 #[cfg(test)]
 mod networks;
 #[cfg(test)]
 mod spelling;
 #[cfg(test)]
 mod texts;
+#[cfg(test)]
+mod tokens;
+#[cfg(test)]
+mod trees;

@@ -8,6 +8,3 @@ mod texts;
 mod words;
 
 pub use texts::read_layout;
-
-#[cfg(test)]
-mod tests;

@@ -15,6 +15,3 @@ pub use laws::{
 };
 pub use narrow::{narrow_network, read_narrow};
 pub use parts::Parts;
-
-#[cfg(test)]
-mod tests;

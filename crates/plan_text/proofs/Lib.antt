@@ -3,4 +3,3 @@ mod DigitLemmas
 mod LawLemmas
 mod ListedLemmas
 mod PlanLemmas
-mod TinyPlan

@@ -9,8 +9,6 @@ pub mod laws;
 mod lines;
 mod messages;
 mod report;
-#[cfg(test)]
-mod tests;
 
 pub use append::put_all;
 pub use digits::Digits;

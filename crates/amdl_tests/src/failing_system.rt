@@ -1,0 +1,350 @@
+//! A system whose reads and writes move one piece at a time and fail at a chosen call, and the adapters over it.
+use outside::{Files, HostFiles, HostSink, LoadFault, Sink, SinkFault, StoreFault};
+use std::alloc::{Allocator, Global};
+use std::cell::Cell;
+use std::fmt::Display;
+use std::fs::{Metadata, OpenFile, OpenOptions};
+use std::io::{self, Error, ErrorKind, Read, Seek, SeekFrom, Write};
+use std::rt;
+use std::test::Fail;
+
+const TEXT: &[u8] = b"network x;\nforbid h : true;\n";
+
+// Which call fails, if any, and how. Calls are counted from 0.
+#[derive(Clone, Copy)]
+struct Plan {
+    piece: usize,
+    failing: Option<u64>,
+    kind: ErrorKind,
+}
+
+// A file that gives or takes one piece a call.
+#[derive(Drop)]
+struct PiecewiseFile {
+    plan: Plan,
+    calls: u64,
+    rest: &'static [u8],
+}
+
+impl PiecewiseFile {
+    fn turn(&mut self) -> io::Result<()> {
+        let call = self.calls;
+        self.calls = call.saturating_add(1);
+        if self.plan.failing == Some(call) {
+            return Err(Error::from(self.plan.kind));
+        }
+        Ok(())
+    }
+}
+
+impl Read for PiecewiseFile {
+    fn read(&mut self, buf: &mut [u8]) -> io::Result<usize> {
+        self.turn()?;
+        let count = self.plan.piece.min(buf.len()).min(self.rest.len());
+        let (piece, rest) = self.rest.split_at(count);
+        buf[..count].copy_from_slice(piece);
+        self.rest = rest;
+        Ok(count)
+    }
+}
+
+impl Write for PiecewiseFile {
+    fn write(&mut self, buf: &[u8]) -> io::Result<usize> {
+        self.turn()?;
+        Ok(self.plan.piece.min(buf.len()))
+    }
+
+    fn flush(&mut self) -> io::Result<()> {
+        Ok(())
+    }
+}
+
+fn unsupported<T>() -> io::Result<T> {
+    Err(Error::from(ErrorKind::Unsupported))
+}
+
+impl Seek for PiecewiseFile {
+    fn seek(&mut self, _to: SeekFrom) -> io::Result<u64> {
+        unsupported()
+    }
+}
+
+impl OpenFile for PiecewiseFile {
+    fn metadata(&self) -> io::Result<Metadata> {
+        unsupported()
+    }
+
+    fn set_len(&self, _size: u64) -> io::Result<()> {
+        unsupported()
+    }
+
+    fn sync_all(&self) -> io::Result<()> {
+        unsupported()
+    }
+
+    fn sync_data(&self) -> io::Result<()> {
+        unsupported()
+    }
+}
+
+// A system that opens every file, or fails to.
+#[derive(Drop)]
+struct FailingSystem {
+    plan: Plan,
+    opens: Option<ErrorKind>,
+}
+
+impl rt::Files for FailingSystem {
+    type File = PiecewiseFile;
+
+    type Dir = PiecewiseFile;
+
+    fn open_file(&self, _how: &OpenOptions, _path: &str) -> io::Result<PiecewiseFile> {
+        match self.opens {
+            Some(kind) => Err(Error::from(kind)),
+            None => Ok(PiecewiseFile {
+                plan: self.plan,
+                calls: 0,
+                rest: TEXT,
+            }),
+        }
+    }
+
+    fn open_dir(&self, _path: &str) -> io::Result<PiecewiseFile> {
+        unsupported()
+    }
+
+    fn metadata(&self, _path: &str) -> io::Result<Metadata> {
+        unsupported()
+    }
+
+    fn symlink_metadata(&self, _path: &str) -> io::Result<Metadata> {
+        unsupported()
+    }
+
+    fn copy(&self, _from: &str, _to: &str) -> io::Result<u64> {
+        unsupported()
+    }
+
+    fn rename(&self, _from: &str, _to: &str) -> io::Result<()> {
+        unsupported()
+    }
+
+    fn remove_file(&self, _path: &str) -> io::Result<()> {
+        unsupported()
+    }
+
+    fn create_dir(&self, _path: &str) -> io::Result<()> {
+        unsupported()
+    }
+
+    fn remove_dir(&self, _path: &str) -> io::Result<()> {
+        unsupported()
+    }
+
+    fn remove_dir_all<B: Allocator>(&self, _alloc: B, _path: &str) -> io::Result<()> {
+        unsupported()
+    }
+}
+
+// A standard output that takes one piece a call.
+#[derive(Drop)]
+struct FailingOutput {
+    plan: Plan,
+    calls: Cell<u64>,
+    taken: Cell<usize>,
+}
+
+impl Print for FailingOutput {
+    fn print<D: Display + Drop>(&self, _value: D) -> io::Result<()> {
+        unsupported()
+    }
+
+    fn println<D: Display + Drop>(&self, _value: D) -> io::Result<()> {
+        unsupported()
+    }
+
+    fn write_all(&self, _bytes: &[u8]) -> io::Result<()> {
+        unsupported()
+    }
+
+    fn write_some(&self, bytes: &[u8]) -> io::Result<usize> {
+        let call = self.calls.get();
+        self.calls.set(call.saturating_add(1));
+        if self.plan.failing == Some(call) {
+            return Err(Error::from(self.plan.kind));
+        }
+        let count = self.plan.piece.min(bytes.len());
+        self.taken.set(self.taken.get().saturating_add(count));
+        Ok(count)
+    }
+}
+
+// What a load of the text appends, and what it answers.
+fn loaded(alloc: Global, system: &FailingSystem, limit: usize) -> (Vec<u8>, Result<(), LoadFault>) {
+    let mut into = Vec::new(alloc);
+    let answer = HostFiles::new(system).load(alloc, "net", limit, &mut into);
+    (into, answer)
+}
+
+// The calls at which a text that moves in pieces fails: the first, one in the middle, the last that moves bytes, and, where
+// it is read, the one that finds its end. Pieces of 0 bytes end a text.
+const FAILING_READS: [(&str, usize, u64, usize); 6] = [
+    ("one byte a read, the first fails", 1, 0, 0),
+    ("one byte a read, one in the middle fails", 1, 11, 11),
+    ("one byte a read, the last fails", 1, 27, 27),
+    ("one byte a read, the one at the end fails", 1, 28, 28),
+    ("ten bytes a read, the second fails", 10, 1, 10),
+    ("all bytes a read, the one at the end fails", 100, 1, 28),
+];
+
+#[test]
+fn a_failed_read_is_a_failed_load(rt: HostRuntime) {
+    for (label, piece, call, kept) in FAILING_READS {
+        for (kind, fault) in [
+            (ErrorKind::Other, LoadFault::Failed),
+            (ErrorKind::UnexpectedEof, LoadFault::Failed),
+            (ErrorKind::NotFound, LoadFault::Failed),
+            (ErrorKind::OutOfMemory, LoadFault::NoMemory),
+        ] {
+            let plan = Plan {
+                piece,
+                failing: Some(call),
+                kind,
+            };
+            let (into, answer) = loaded(rt.alloc(), &FailingSystem { plan, opens: None }, 28);
+            assert!(rt; answer == Err(fault), "{label}: the answer");
+            assert!(rt; into.as_slice() == &TEXT[..kept], "{label}: the bytes");
+        }
+    }
+}
+
+#[test]
+fn a_short_read_goes_on(rt: HostRuntime) {
+    for (label, piece) in [("one byte", 1), ("ten bytes", 10), ("all bytes", 100)] {
+        let plan = Plan {
+            piece,
+            failing: None,
+            kind: ErrorKind::Other,
+        };
+        let system = FailingSystem { plan, opens: None };
+        let (into, answer) = loaded(rt.alloc(), &system, 28);
+        assert!(rt; answer == Ok(()), "{label} a read");
+        assert!(rt; into.as_slice() == TEXT, "{label} a read: the bytes");
+        let (into, answer) = loaded(rt.alloc(), &system, 27);
+        assert!(rt;
+            answer == Err(LoadFault::TooLong),
+            "{label} a read, too long"
+        );
+        assert!(rt;
+            into.as_slice() == &TEXT[..27],
+            "{label} a read, too long: the bytes"
+        );
+    }
+}
+
+#[test]
+fn a_file_that_is_not_opened(rt: HostRuntime) {
+    for (label, kind, load, store) in [
+        (
+            "there is none",
+            ErrorKind::NotFound,
+            LoadFault::Missing,
+            StoreFault::Failed,
+        ),
+        (
+            "no right",
+            ErrorKind::PermissionDenied,
+            LoadFault::Failed,
+            StoreFault::Failed,
+        ),
+        (
+            "a folder",
+            ErrorKind::IsADirectory,
+            LoadFault::Failed,
+            StoreFault::Failed,
+        ),
+        (
+            "no memory",
+            ErrorKind::OutOfMemory,
+            LoadFault::NoMemory,
+            StoreFault::NoMemory,
+        ),
+    ] {
+        let plan = Plan {
+            piece: 100,
+            failing: None,
+            kind,
+        };
+        let system = FailingSystem {
+            plan,
+            opens: Some(kind),
+        };
+        let (into, answer) = loaded(rt.alloc(), &system, 28);
+        assert!(rt; answer == Err(load), "load: {label}");
+        assert!(rt; into.is_empty(), "load: {label}: the bytes");
+        let stored = HostFiles::new(&system).store(rt.alloc(), "net", TEXT);
+        assert!(rt; stored == Err(store), "store: {label}");
+    }
+}
+
+// A write of no bytes is a fault.
+const FAILING_WRITES: [(&str, usize, Option<u64>, usize); 6] = [
+    ("one byte a write, the first fails", 1, Some(0), 0),
+    ("one byte a write, one in the middle fails", 1, Some(11), 11),
+    ("one byte a write, the last fails", 1, Some(27), 27),
+    ("ten bytes a write, the second fails", 10, Some(1), 10),
+    ("all bytes a write, the first fails", 100, Some(0), 0),
+    ("no byte a write", 0, None, 0),
+];
+
+#[test]
+fn a_failed_write_is_a_fault(rt: HostRuntime) {
+    for (label, piece, failing, kept) in FAILING_WRITES {
+        let plan = Plan {
+            piece,
+            failing,
+            kind: ErrorKind::Other,
+        };
+        let system = FailingSystem { plan, opens: None };
+        let stored = HostFiles::new(&system).store(rt.alloc(), "net", TEXT);
+        assert!(rt; stored == Err(StoreFault::Failed), "store: {label}");
+        let output = FailingOutput {
+            plan,
+            calls: Cell::new(0),
+            taken: Cell::new(0),
+        };
+        let put = HostSink::new(&output).put(rt.alloc(), TEXT);
+        assert!(rt; put == Err(SinkFault::Failed), "put: {label}");
+        assert!(rt; output.taken.get() == kept, "put: {label}: the bytes");
+    }
+}
+
+#[test]
+fn a_short_write_goes_on(rt: HostRuntime) -> Result<(), Fail> {
+    for (label, piece, calls) in [
+        ("one byte", 1, 28),
+        ("ten bytes", 10, 3),
+        ("all bytes", 100, 1),
+    ] {
+        let plan = Plan {
+            piece,
+            failing: Some(calls),
+            kind: ErrorKind::Other,
+        };
+        let system = FailingSystem { plan, opens: None };
+        HostFiles::new(&system).store(rt.alloc(), "net", TEXT)?;
+        let output = FailingOutput {
+            plan,
+            calls: Cell::new(0),
+            taken: Cell::new(0),
+        };
+        HostSink::new(&output).put(rt.alloc(), TEXT)?;
+        assert!(rt; output.calls.get() == calls, "{label} a write: the calls");
+        assert!(rt;
+            output.taken.get() == TEXT.len(),
+            "{label} a write: the bytes"
+        );
+    }
+    Ok(())
+}

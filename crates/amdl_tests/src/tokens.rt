@@ -1,0 +1,200 @@
+//! Tokens with their places, and the first faults.
+use amdl_lexer::{LexRefusal, lex};
+use amdl_tree::{Lexed, List, Name, Reserved, Sign, Token};
+use std::alloc::{AllocError, Global};
+
+const WIRE: &[u8] =
+    b"network wire;\ntype Addr = {a, b};\nfield src : Addr;\nfield dst : Addr;\nhost p;\nhost q;\nlink p -- q;\nsends p : src = a;\nforbid q : src = a, dst = b;\n";
+
+const SIGNS: [Sign; 16] = [
+    Sign::Semicolon,
+    Sign::Colon,
+    Sign::Becomes,
+    Sign::Comma,
+    Sign::Point,
+    Sign::OpenBrace,
+    Sign::CloseBrace,
+    Sign::OpenParen,
+    Sign::CloseParen,
+    Sign::OpenBracket,
+    Sign::CloseBracket,
+    Sign::Equals,
+    Sign::Differs,
+    Sign::Arrow,
+    Sign::Dashes,
+    Sign::Bar,
+];
+
+// A short text's tokens.
+fn tokens_of(alloc: Global, bytes: &[u8]) -> Result<List<Lexed>, LexRefusal> {
+    if bytes.len() > 4_194_304 {
+        return Err(LexRefusal::NoMemory);
+    }
+    lex(alloc, bytes)
+}
+
+// How many tokens there are, or why there are none.
+fn count_of(alloc: Global, bytes: &[u8]) -> Result<usize, LexRefusal> {
+    let tokens = tokens_of(alloc, bytes)?;
+    Ok(tokens.as_slice().len())
+}
+
+fn at(tokens: &List<Lexed>, index: usize) -> Option<Lexed> {
+    tokens.as_slice().get(index).copied()
+}
+
+fn placed(token: Token, start: u32, end: u32) -> Option<Lexed> {
+    Some(Lexed { token, start, end })
+}
+
+fn named(name: &[u8], start: u32, end: u32) -> Option<Lexed> {
+    let name = Name::new(name)?;
+    placed(Token::Word(name), start, end)
+}
+
+#[test]
+fn tokens_of_a_network(rt: HostRuntime) -> Result<(), LexRefusal> {
+    let tokens = tokens_of(rt.alloc(), WIRE)?;
+    assert_eq!(rt; tokens.as_slice().len(), 51);
+    let places = [
+        (0, placed(Token::Key(Reserved::Network), 0, 7)),
+        (1, named(b"wire", 8, 12)),
+        (2, placed(Token::Sign(Sign::Semicolon), 12, 13)),
+        (3, placed(Token::Key(Reserved::Kind), 14, 18)),
+        (6, placed(Token::Sign(Sign::OpenBrace), 26, 27)),
+        (7, named(b"a", 27, 28)),
+        (30, placed(Token::Sign(Sign::Dashes), 93, 95)),
+        (49, named(b"b", 144, 145)),
+        (50, placed(Token::Sign(Sign::Semicolon), 145, 146)),
+    ];
+    for (index, token) in places {
+        assert_eq!(rt; at(&tokens, index), token, "token {index}");
+    }
+    Ok(())
+}
+
+#[test]
+fn every_sign(rt: HostRuntime) -> Result<(), LexRefusal> {
+    let apart = tokens_of(rt.alloc(), b"; : := , . { } ( ) [ ] = != -> -- |")?;
+    let close = tokens_of(rt.alloc(), b";::=,.{}()[]=!=->--|")?;
+    let starts = [0, 2, 4, 7, 9, 11, 13, 15, 17, 19, 21, 23, 25, 28, 31, 34];
+    assert_eq!(rt; apart.as_slice().len(), 16);
+    assert_eq!(rt; close.as_slice().len(), 16);
+    for (index, sign) in SIGNS.iter().enumerate() {
+        let end = starts[index] + sign.spelling().len() as u32;
+        assert_eq!(rt;
+            at(&apart, index),
+            placed(Token::Sign(*sign), starts[index], end)
+        );
+        assert_eq!(rt;
+            at(&close, index).map(|lexed| lexed.token),
+            Some(Token::Sign(*sign))
+        );
+    }
+    Ok(())
+}
+
+#[test]
+fn tokens_side_by_side(rt: HostRuntime) -> Result<(), LexRefusal> {
+    let tokens = tokens_of(rt.alloc(), b"a--b 12ab f:=a!=b->c 000000007")?;
+    let places = [
+        named(b"a", 0, 1),
+        placed(Token::Sign(Sign::Dashes), 1, 3),
+        named(b"b", 3, 4),
+        placed(Token::Number(12), 5, 7),
+        named(b"ab", 7, 9),
+        named(b"f", 10, 11),
+        placed(Token::Sign(Sign::Becomes), 11, 13),
+        named(b"a", 13, 14),
+        placed(Token::Sign(Sign::Differs), 14, 16),
+        named(b"b", 16, 17),
+        placed(Token::Sign(Sign::Arrow), 17, 19),
+        named(b"c", 19, 20),
+        placed(Token::Number(7), 21, 30),
+        None,
+    ];
+    for (index, token) in places.iter().enumerate() {
+        assert_eq!(rt; at(&tokens, index), *token, "token {index}");
+    }
+    Ok(())
+}
+
+#[test]
+fn blanks_and_comments(rt: HostRuntime) -> Result<(), LexRefusal> {
+    let tokens = tokens_of(rt.alloc(), b"\r\t#\xff @\r!\n host#p;")?;
+    assert_eq!(rt; tokens.as_slice().len(), 1);
+    assert_eq!(rt; at(&tokens, 0), placed(Token::Key(Reserved::Host), 10, 14));
+    assert_eq!(rt; count_of(rt.alloc(), b""), Ok(0));
+    assert_eq!(rt; count_of(rt.alloc(), b" \t\r\n##\n#"), Ok(0));
+    Ok(())
+}
+
+#[test]
+fn bad_bytes(rt: HostRuntime) {
+    let texts: [(&[u8], u32); 14] = [
+        (b"network x;\n@", 11),
+        (b"---", 2),
+        (b"!", 0),
+        (b"- >", 0),
+        (b"a! =", 1),
+        (b"a\x80", 1),
+        (b"\xef\xbb\xbfa", 0),
+        (b"a \x00", 2),
+        (b"\x0b", 0),
+        (b"\x0c", 0),
+        (b"\x7f", 0),
+        (b"#@\n@", 3),
+        (b"#\r@\n $", 5),
+        (b"\"", 0),
+    ];
+    for (bytes, place) in texts {
+        assert_eq!(rt;
+            count_of(rt.alloc(), bytes),
+            Err(LexRefusal::BadByte(place)),
+            "{bytes:?}"
+        );
+    }
+}
+
+#[test]
+fn long_words(rt: HostRuntime) {
+    assert_eq!(rt;
+        count_of(rt.alloc(), b"network abcdefghijklmnopqrstuvwx;"),
+        Ok(3)
+    );
+    let texts: [(&[u8], u32); 4] = [
+        (b"network abcdefghijklmnopqrstuvwxy;@", 8),
+        (b"0000000000", 0),
+        (b"a 1234567890b", 2),
+        (b"# x\nabcdefghijklmnopqrstuvwxyz0123456789", 4),
+    ];
+    for (bytes, place) in texts {
+        assert_eq!(rt;
+            count_of(rt.alloc(), bytes),
+            Err(LexRefusal::WordTooLong(place)),
+            "{bytes:?}"
+        );
+    }
+}
+
+#[test]
+fn many_tokens(rt: HostRuntime) -> Result<(), AllocError> {
+    let mut text = vec![in rt.alloc(); b';'; 1_000_000]?;
+    text.extend_from_slice(b" # all\n")?;
+    assert_eq!(rt; count_of(rt.alloc(), &text), Ok(1_000_000));
+    text.extend_from_slice(b"@")?;
+    assert_eq!(rt;
+        count_of(rt.alloc(), &text),
+        Err(LexRefusal::BadByte(1_000_007))
+    );
+    text.truncate(1_000_000);
+    text.extend_from_slice(b"1234567890;")?;
+    assert_eq!(rt;
+        count_of(rt.alloc(), &text),
+        Err(LexRefusal::WordTooLong(1_000_000))
+    );
+    text.truncate(1_000_000);
+    text.extend_from_slice(b";@")?;
+    assert_eq!(rt; count_of(rt.alloc(), &text), Err(LexRefusal::TooManyTokens));
+    Ok(())
+}

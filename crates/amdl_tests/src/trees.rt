@@ -1,0 +1,43 @@
+//! Names, lists and guards.
+use amdl_tree::{Boxed, List, Lit, Name, NoMemory};
+
+#[test]
+fn names(rt: HostRuntime) {
+    let spellings: [(&[u8], bool); 9] = [
+        (b"a", true),
+        (b"abcdefghijklmnopqrstuvwx", true),
+        (b"abcdefghijklmnopqrstuvwxy", false),
+        (b"", false),
+        (b"9a", false),
+        (b"type", false),
+        (b"soft", true),
+        (b"send", true),
+        (b"a-b", false),
+    ];
+    for (bytes, named) in spellings {
+        assert_eq!(rt; Name::new(bytes).is_some(), named, "{bytes:?}");
+    }
+}
+
+#[test]
+fn lists_change(rt: HostRuntime) -> Result<(), NoMemory> {
+    let mut list = List::new(rt.alloc());
+    list.push(1)?;
+    list.push(3)?;
+    list.insert(1, 2)?;
+    assert_eq!(rt; list.as_slice(), [1, 2, 3].as_slice());
+    assert_eq!(rt; list.remove(0), 1);
+    assert_eq!(rt; list.replace(1, 4), 3);
+    assert_eq!(rt; list.as_slice(), [2, 4].as_slice());
+    Ok(())
+}
+
+#[test]
+fn guards_compare(rt: HostRuntime) -> Result<(), NoMemory> {
+    let denied = Lit::Not(Boxed::new(rt.alloc(), Lit::True)?);
+    let doubly = Lit::Not(Boxed::new(rt.alloc(), Lit::Not(Boxed::new(rt.alloc(), Lit::True)?))?);
+    assert!(rt; denied == Lit::Not(Boxed::new(rt.alloc(), Lit::True)?));
+    assert!(rt; denied != doubly);
+    assert!(rt; doubly != Lit::True);
+    Ok(())
+}
