@@ -1,0 +1,4 @@
+pub mod MarkLemmas
+mod BitLemmas
+mod SetLemmas
+mod WordLemmas
