@@ -1,4 +1,5 @@
-pub mod MarkLemmas
 mod BitLemmas
+pub mod MarkLemmas
+pub mod MemberLemmas
 mod SetLemmas
 mod WordLemmas

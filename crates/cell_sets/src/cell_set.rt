@@ -7,8 +7,8 @@ use std::alloc::Global;
 
 /// A number of cells, and a set of numbers below it.
 ///
-/// Contracts see its `marks`, one a cell in rising order: a cell is in the set where its mark is true. Only `make` takes
-/// memory. `cells`, `has`, `add`, `take_out` and `count` take constant time.
+/// Contracts see its `marks`, one a cell in rising order: a cell is in the set where its mark is true. Only `make`
+/// takes memory. `cells`, `has`, `add`, `take_out` and `count` take constant time.
 pub trait CellSet: Drop {
     ghost marks: { Self → List Bool };
 

@@ -1,0 +1,4 @@
+pub mod ProgressLemmas
+pub mod RuleLemmas
+mod RunLemmas
+mod SpaceLemmas

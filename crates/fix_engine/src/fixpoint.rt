@@ -1,0 +1,35 @@
+// The cells that can be derived.
+ghost use Rattle.std.specs.Prelude.{◌≡◌, ℕ, ◌↔◌, []};
+ghost use Rattle.std.specs.List.{Contains};
+ghost use Rattle.amdl_tree.specs.Derivation.{IsDerivable};
+ghost use Rattle.fix_engine.specs.Closed.{IsClosed};
+ghost use Rattle.fix_engine.specs.Progress.{found_in, nothing_found};
+
+use crate::domain::AbstractDomain;
+use crate::work::Work;
+use cell_sets::CellSet;
+use std::sync::ledger::Ledger;
+use step_count::Steps;
+
+/// Finds all cells that can be derived, and no others, in a work space in which nothing is found yet.
+///
+/// Nothing waits afterwards. It takes no memory. Which steps are counted is the domain's affair, and nothing is
+/// said of it.
+pub fn least<D: AbstractDomain, S: CellSet, L: Ledger>(
+    domain: &mut D,
+    work: &mut Work<S>,
+    steps: &mut Steps<L>,
+)
+    requires { work.old ≡ nothing_found (D.count (D.subject domain.old)) }
+    ensures same { D.subject domain.new ≡ D.subject domain.old }
+    ensures cells { work.new.cells ≡ D.count (D.subject domain.old) }
+    ensures nothing_waits { work.new.todo ≡ [] }
+    ensures closed { IsClosed (D.follows (D.subject domain.old)) (found_in work.new) }
+    ensures exact { (cell : ℕ) →
+        Contains (found_in work.new) cell ↔ IsDerivable (D.follows (D.subject domain.old)) cell }
+{
+    domain.starts(work);
+    while let Some(cell) = work.take() {
+        domain.react(cell, work, steps);
+    }
+}
