@@ -1,8 +1,10 @@
+pub mod AppendLemmas
 pub mod BuiltLemmas
 pub mod DepthLaws
 pub mod DepthLemmas
 pub mod DerivationLemmas
 pub mod EqualityLemmas
+pub mod FileLemmas
 pub mod FitsLemmas
 pub mod LexemeLemmas
 pub mod LineLemmas

@@ -6,6 +6,7 @@ use Rattle.amdl_tree.specs.Layout.{layout_of_tree}
 use Rattle.amdl_tree.specs.WellBuilt.{OneOrMore, IsBuiltEqual, IsBuiltEnd, LitLayer, GuardLayer, StmtLayer, AlternativeLayer, IsBuiltLit, IsBuiltGuard, IsBuiltStmt, IsBuiltAlternative, IsBuiltClass, IsBuiltItem, ItemFits, IsWellBuilt, IsShaped}
 use Rattle.amdl_tree.specs.Spelling.{spell_of_lit, spell_of_guard, spell_of_statement, spell_of_statements, spell_of_class, spell_of_pattern, spell_of_end, spell_of_item, spell}
 use Rattle.amdl_tree.specs.Lexical.{StandsFor}
+use Rattle.amdl_tree.specs.NetworkFile.{IsFileOf}
 use Rattle.amdl_tree.specs.GoesOn.{Once, never, goes_guard, goes_pattern, goes_end, starts_statement, starts_item}
 use Rattle.amdl_tree.specs.Depth.{depth_of_item, depth_of_tree}
 use Rattle.amdl_tree.specs.Derivation.{IsDerivable}
@@ -35,6 +36,14 @@ LayoutStands = (tree : Tree) → IsWellBuilt tree → StandsFor (layout_of_tree 
 -- no two trees that texts can spell have one spelling
 abbrev pub SpellingIsOneToOne : Type 0
 SpellingIsOneToOne = (t u : Tree) → IsWellBuilt t → IsWellBuilt u → spell t ≡ spell u → t ≡ u
+
+-- a text is the network file of at most one tree
+abbrev pub FileIsOfOneTree : Type 0
+FileIsOfOneTree = (text : List ℕ) (t u : Tree) → IsFileOf text t → IsFileOf text u → t ≡ u
+
+-- the layout of a shaped tree is its network file
+abbrev pub LayoutIsFile : Type 0
+LayoutIsFile = (tree : Tree) → IsShaped tree → IsFileOf (layout_of_tree tree) tree
 
 -- A guard is well built exactly where it is made of one or more lists of one or more well-built literals; a literal, a
 -- statement and an alternative exactly where their parts are.

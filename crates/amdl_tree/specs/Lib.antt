@@ -1,3 +1,4 @@
+pub mod Appends
 pub mod Depth
 pub mod Derivation
 pub mod Example
@@ -8,6 +9,7 @@ pub mod Laws
 pub mod Layout
 pub mod Lexical
 pub mod NameBytes
+pub mod NetworkFile
 pub mod Spelling
 pub mod Token
 pub mod WellBuilt

@@ -1,6 +1,6 @@
 //! Laws over the definitions, each the contract of a function that does nothing.
 ghost use Rattle.std.specs.Prelude.{◌≡◌};
-ghost use Rattle.amdl_tree.specs.Laws.{StandsOnce, LayoutIsOneToOne, LayoutStands, SpellingIsOneToOne, PartsAreSpelledOnce, BuiltByParts, FitsByDepth, ShapedByDepth, WordsSplit, ReservedDiffer, DerivableIsLeast};
+ghost use Rattle.amdl_tree.specs.Laws.{StandsOnce, LayoutIsOneToOne, LayoutStands, SpellingIsOneToOne, FileIsOfOneTree, LayoutIsFile, PartsAreSpelledOnce, BuiltByParts, FitsByDepth, ShapedByDepth, WordsSplit, ReservedDiffer, DerivableIsLeast};
 ghost use Rattle.amdl_tree.specs.Layout.{layout_of_tree};
 ghost use Rattle.amdl_tree.specs.Spelling.{spell};
 ghost use Rattle.amdl_tree.specs.WellBuilt.{IsWellBuilt};
@@ -27,6 +27,16 @@ pub fn layout_stands_for_spelling()
 /// No two trees that texts can spell have one spelling.
 pub fn spelling_is_one_to_one()
     ensures { SpellingIsOneToOne }
+{}
+
+/// A text is the network file of at most one tree.
+pub fn file_is_of_one_tree()
+    ensures { FileIsOfOneTree }
+{}
+
+/// The canonical layout of a shaped tree is its network file.
+pub fn layout_is_file()
+    ensures { LayoutIsFile }
 {}
 
 /// A token list begins with at most one part of each kind, so that what stands behind it is settled too.
