@@ -1,4 +1,3 @@
-mod AppendLemmas
 mod DigitLemmas
 mod LawLemmas
 mod ListedLemmas

@@ -6,6 +6,7 @@ use Rattle.net_plan.specs.declared.plan.Plan.{Plan}
 use Rattle.net_plan.specs.declared.fact.Fact.{Fact}
 use Rattle.net_plan.specs.declared.fact.Fact.TheVariants.{Out}
 use Rattle.net_plan.specs.Laws.{wire_plan}
+use Rattle.plan_text.specs.declared.refusal.NetworkRefusal.{NetworkRefusal}
 use Rattle.plan_text.specs.Text.{network_line, facts_line, report_of}
 use Rattle.plan_text.specs.Messages.{usage_text, refused_network, missing_text, fault_load_text}
 use Rattle.plan_text.specs.Prints.{BeginsWith, PrintsSafe}
@@ -32,10 +33,10 @@ SafeIsPrinted = (plan : Plan) (facts : List Fact) → IsName plan.name → SaysS
 abbrev pub NeverPrintsSafe : List ℕ → Type 0
 NeverPrintsSafe text = (front rest : List ℕ) → text ≡ front ++ rest → ¬ PrintsSafe front
 
--- neither usage nor a refusal prints SAFE, whatever stands in the reason or in the name
+-- neither usage nor a refusal prints SAFE, whatever stands in the name
 pub record MessagesAreNotSafe : Type 0 where
   pub usage : NeverPrintsSafe usage_text
-  pub refused : (reason : List ℕ) → NeverPrintsSafe (refused_network reason)
+  pub refused : (refusal : NetworkRefusal) → NeverPrintsSafe (refused_network refusal)
   pub missing : (name : List ℕ) → NeverPrintsSafe (missing_text name)
   pub fault_load : (name : List ℕ) → NeverPrintsSafe (fault_load_text name)
 

@@ -1,4 +1,3 @@
-pub mod Appends
 pub mod Laws
 pub mod Messages
 pub mod Prints

@@ -3,15 +3,15 @@
 //! Each of these answers want of memory as its only refusal, and then a front of its text was appended.
 #![tactic(auto)]
 
-mod append;
 mod digits;
 pub mod laws;
 mod lines;
 mod messages;
+mod refusal;
 mod report;
 
-pub use append::put_all;
 pub use digits::Digits;
 pub use lines::{put_end, put_facts_line, put_network_line, put_packet};
 pub use messages::{put_fault_load, put_missing, put_refused, usage};
+pub use refusal::NetworkRefusal;
 pub use report::{put_bad_line, put_report};

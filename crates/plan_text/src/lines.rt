@@ -1,11 +1,10 @@
 ghost use Rattle.std.specs.Prelude.{◌≡◌, ◌<◌, ◌++◌, length, OnOk, OnErr};
-ghost use Rattle.plan_text.specs.Appends.{AppendsPart};
+ghost use Rattle.amdl_tree.specs.Appends.{AppendsPart};
 ghost use Rattle.net_plan.specs.Plan.{packets_of, ends_of};
 ghost use Rattle.plan_text.specs.Text.{network_line, facts_line, count_of_outs, count_of_states, count_of_aborts, text_of_end, text_of_field, text_of_packet};
 
-use crate::append::put_all;
 use crate::digits::Digits;
-use amdl_tree::{Name, NoMemory};
+use amdl_tree::{Name, NoMemory, put_all};
 use net_plan::{Fact, Network, Place};
 
 /// Appends the network line, without its end.

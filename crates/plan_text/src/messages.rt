@@ -1,9 +1,11 @@
-ghost use Rattle.std.specs.Prelude.{◌≡◌, ◌++◌, OnOk, OnErr};
-ghost use Rattle.plan_text.specs.Appends.{AppendsPart};
+ghost use Rattle.std.specs.Prelude.{◌≡◌, ◌++◌, codes, decimal, OnOk, OnErr};
+ghost use Rattle.amdl_tree.specs.Appends.{AppendsPart};
+ghost use Rattle.amdl_tree.specs.Layout.{line};
 ghost use Rattle.plan_text.specs.Messages.{usage_text, refused_network, missing_text, fault_load_text};
 
-use crate::append::put_all;
-use amdl_tree::NoMemory;
+use crate::digits::Digits;
+use crate::refusal::NetworkRefusal;
+use amdl_tree::{NoMemory, put_all};
 
 /// Appends how a call is written.
 pub fn usage(out: &mut Vec<u8>) -> Result<(), NoMemory>
@@ -12,16 +14,47 @@ pub fn usage(out: &mut Vec<u8>) -> Result<(), NoMemory>
 {
     put_all(
         out,
-        &[b"usage: amdl VERB WORD [WORD]\n", b"verbs: analyse\n"],
+        &[
+            b"usage: amdl VERB WORD [WORD]\n",
+            b"verbs: analyse format\n",
+        ],
     )
 }
 
-/// Appends the refusal of a network text, whose reason is a word such as `TooLong`.
-pub fn put_refused(reason: &[u8], out: &mut Vec<u8>) -> Result<(), NoMemory>
-    ensures ok { OnOk result (out.new.items ≡ out.old.items ++ refused_network reason.now) }
-    ensures err { OnErr result (AppendsPart out.old.items out.new.items (refused_network reason.now)) }
+/// Appends the refusal of a network text.
+pub fn put_refused(refusal: NetworkRefusal, out: &mut Vec<u8>) -> Result<(), NoMemory>
+    ensures ok { OnOk result (out.new.items ≡ out.old.items ++ refused_network refusal) }
+    ensures err { OnErr result (AppendsPart out.old.items out.new.items (refused_network refusal)) }
+{
+    match refusal {
+        NetworkRefusal::TooLong => put_reason(b"TooLong", out),
+        NetworkRefusal::BadByte(at) => put_placed(b"byte ", at, b" BadByte", out),
+        NetworkRefusal::WordTooLong(at) => put_placed(b"byte ", at, b" WordTooLong", out),
+        NetworkRefusal::TooManyTokens => put_reason(b"TooManyTokens", out),
+        NetworkRefusal::Syntax(at) => put_placed(b"token ", at, b" Syntax", out),
+        NetworkRefusal::Deep(at) => put_placed(b"token ", at, b" Deep", out),
+        NetworkRefusal::FirstForm => put_reason(b"FirstForm", out),
+    }
+}
+
+// Appends a refusal for this reason.
+fn put_reason(reason: &[u8], out: &mut Vec<u8>) -> Result<(), NoMemory>
+    ensures ok { OnOk result (out.new.items ≡ out.old.items ++ line (codes "refused network " ++ reason.now)) }
+    ensures err { OnErr result (AppendsPart out.old.items out.new.items (line (codes "refused network " ++ reason.now))) }
 {
     put_all(out, &[b"refused network ", reason, b"\n"])
+}
+
+// Appends a refusal for a fault at a place, with what stands before the place and behind it.
+fn put_placed(before: &[u8], at: u32, fault: &[u8], out: &mut Vec<u8>) -> Result<(), NoMemory>
+    ensures ok { OnOk result (out.new.items ≡ out.old.items ++ line (codes "refused network " ++ (before.now ++ decimal at ++ fault.now))) }
+    ensures err { OnErr result (AppendsPart out.old.items out.new.items (line (codes "refused network " ++ (before.now ++ decimal at ++ fault.now)))) }
+{
+    let place = Digits::of(at as u64);
+    put_all(
+        out,
+        &[b"refused network ", before, place.bytes(), fault, b"\n"],
+    )
 }
 
 /// Appends that there is no file of this name.

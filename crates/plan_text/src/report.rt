@@ -2,13 +2,12 @@ ghost use Rattle.std.specs.Prelude.{◌≡◌, ◌++◌, ℕ, ◌<◌, All, OnOk
 ghost use Rattle.std.specs.List.{flat_map};
 ghost use Rattle.amdl_tree.specs.Layout.{line};
 ghost use Rattle.net_plan.specs.Plan.{host_at, packets_of, ends_of, IsLinked};
-ghost use Rattle.plan_text.specs.Appends.{AppendsPart};
+ghost use Rattle.amdl_tree.specs.Appends.{AppendsPart};
 ghost use Rattle.plan_text.specs.Text.{bad_line, deliver_line, host_across, more_text, report_of, verdict_text, IsOutInRange};
 
-use crate::append::put_all;
 use crate::digits::Digits;
 use crate::lines::{end_name, put_facts_line, put_network_line, put_packet};
-use amdl_tree::{Name, NoMemory};
+use amdl_tree::{Name, NoMemory, put_all};
 use net_plan::{Fact, Network};
 
 /// The most bad facts that a report lists.

@@ -2,7 +2,7 @@ use Rattle.std.proofs.Common.{◌≡◌, ◌≤◌, ◌<◌, ◌++◌, ℕ, List
 use Rattle.std.specs.Prelude.{codes}
 use Rattle.net_plan.specs.declared.plan.Plan.{Plan}
 use Rattle.plan_text.specs.Text.{text_of_field, text_of_packet}
-use Rattle.plan_text.proofs.AppendLemmas.{on_err, part_after}
+use Rattle.amdl_tree.proofs.AppendLemmas.{on_err, part_after}
 use Rattle.plan_text.proofs.ListedLemmas.{up_to, up_to_at, up_to_more}
 use Rattle.plan_text.proofs.PlanLemmas.{length-sizes}
 use Rattle.plan_text.proofs.lines.put_packet.Goals as goal

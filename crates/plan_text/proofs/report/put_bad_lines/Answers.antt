@@ -5,7 +5,7 @@ use Rattle.net_plan.specs.declared.plan.Plan.{Plan}
 use Rattle.net_plan.specs.declared.fact.Fact.{Fact}
 use Rattle.net_plan.specs.declared.fact.Fact.TheVariants.{Out}
 use Rattle.plan_text.specs.Text.{bad_line}
-use Rattle.plan_text.proofs.AppendLemmas.{on_err, part_after, pieces_at}
+use Rattle.amdl_tree.proofs.AppendLemmas.{on_err, part_after, pieces_at}
 use Rattle.plan_text.proofs.report.put_bad_lines.Goals as goal
 
 abbrev line_of : Plan → Fact → List ℕ

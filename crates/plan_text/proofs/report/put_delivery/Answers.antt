@@ -4,7 +4,7 @@ use Rattle.std.specs.Fmt.{decimal}
 use Rattle.std.proofs.lemmas.Result.{on_err_weaker}
 use Rattle.net_plan.specs.Plan.{host_at}
 use Rattle.plan_text.specs.Text.{deliver_line, host_across, text_of_end, text_of_packet}
-use Rattle.plan_text.proofs.AppendLemmas.{on_err, part_first, part_after}
+use Rattle.amdl_tree.proofs.AppendLemmas.{on_err, part_first, part_after}
 use Rattle.plan_text.proofs.report.put_delivery.Goals as goal
 
 -- what stands before the packet's fields, as it is put

@@ -2,7 +2,7 @@ use Rattle.std.proofs.Common.{◌≡◌, ℕ, List, [], ◌∷◌, ◌++◌, sym
 use Rattle.std.proofs.lemmas.Result.{on_ok_weaker, on_err_weaker}
 use Rattle.amdl_tree.specs.Layout.{line}
 use Rattle.plan_text.specs.Text.{network_line, facts_line, verdict_text, report_of}
-use Rattle.plan_text.proofs.AppendLemmas.{on_err, part_first, part_after, appended_after}
+use Rattle.amdl_tree.proofs.AppendLemmas.{on_err, part_first, part_after, appended_after}
 use Rattle.plan_text.proofs.report.put_report.Goals as goal
 use Rattle.plan_text.proofs.report.put_report.Goals.{After-put_verdict}
 

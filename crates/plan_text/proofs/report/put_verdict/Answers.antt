@@ -8,7 +8,7 @@ use Rattle.amdl_tree.specs.Layout.{line}
 use Rattle.net_plan.specs.declared.plan.Plan.{Plan}
 use Rattle.net_plan.specs.declared.fact.Fact.{Fact}
 use Rattle.plan_text.specs.Text.{bad_line, more_text, verdict_text, IsOutInRange}
-use Rattle.plan_text.proofs.AppendLemmas.{on_err, part_first, part_after, appended_after}
+use Rattle.amdl_tree.proofs.AppendLemmas.{on_err, part_first, part_after, appended_after}
 use Rattle.plan_text.proofs.report.put_verdict.Goals as goal
 
 -- the first line, as it is put
