@@ -1,4 +1,4 @@
+mod FitLemmas
 mod FormLemmas
-mod KeepsLemmas
 mod LineLemmas
 mod ListLemmas

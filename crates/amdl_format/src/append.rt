@@ -1,23 +1,9 @@
 ghost use Rattle.std.specs.Prelude.{◌≡◌, ◌++◌, codes, OnOk};
 ghost use Rattle.std.specs.List.{flat_map};
-ghost use Rattle.amdl_format.specs.Appends.{Keeps};
+ghost use Rattle.amdl_tree.specs.Appends.{Keeps};
 ghost use Rattle.amdl_format.specs.Lines.{blanks, line_at};
 
-use amdl_tree::NoMemory;
-
-/// Appends the pieces in turn. Linear in their bytes.
-pub(crate) fn put_all(out: &mut Vec<u8>, pieces: &[&[u8]]) -> Result<(), NoMemory>
-    ensures ok { OnOk result (out.new.items ≡ out.old.items ++ flat_map (λ piece. piece.now) pieces.now) }
-    ensures kept { Keeps out.old.items out.new.items }
-{
-    for piece in pieces {
-        match out.extend_from_slice(*piece) {
-            Ok(()) => {}
-            Err(_) => return Err(NoMemory),
-        }
-    }
-    Ok(())
-}
+use amdl_tree::{NoMemory, put_all};
 
 /// Appends two blanks for each level. Linear in the levels.
 #[tactic(auto, using(crate::proofs::LineLemmas::blanks_more))]

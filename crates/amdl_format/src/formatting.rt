@@ -1,15 +1,13 @@
 ghost use Rattle.std.specs.Prelude.{◌≡◌, ◌++◌, codes, OnErr, OnOk};
 ghost use Rattle.amdl_tree.specs.Layout.{layout_of_tree};
-ghost use Rattle.amdl_tree.specs.Lexical.{StandsFor};
-ghost use Rattle.amdl_tree.specs.Spelling.{spell};
+ghost use Rattle.amdl_tree.specs.NetworkFile.{IsFileOf};
 ghost use Rattle.amdl_tree.specs.WellBuilt.{IsShaped};
-ghost use Rattle.amdl_format.specs.Appends.{Keeps};
+ghost use Rattle.amdl_tree.specs.Appends.{Keeps};
 
-use crate::append::put_all;
 use crate::items::put_item;
-use amdl_tree::{NoMemory, Tree, layout_stands_for_spelling, shape_is_by_depth};
+use amdl_tree::{NoMemory, Tree, layout_is_file, put_all};
 
-/// Appends the canonical layout of a tree, which reads back as the tree's spelling. Linear in the bytes of the layout.
+/// Appends the canonical layout of a tree, which is a network file of it. Linear in the bytes of the layout.
 ///
 /// What `out` held stays. Want of memory is the one refusal, and then nothing is appended. Blocks and groups that stand
 /// within one another take stack, at most 32 of them.
@@ -17,15 +15,15 @@ pub fn format(tree: &Tree, out: &mut Vec<u8>) -> Result<(), NoMemory>
     requires { IsShaped tree.now }
     ensures ok { OnOk result (out.new.items ≡ out.old.items ++ layout_of_tree tree.now) }
     ensures err { OnErr result (out.new.items ≡ out.old.items) }
-    ensures reads { StandsFor (layout_of_tree tree.now) (spell tree.now) }
+    ensures reads { IsFileOf (layout_of_tree tree.now) tree.now }
 {
-    layout_stands_for_spelling();
-    shape_is_by_depth();
+    layout_is_file();
     put_whole(tree, out)
 }
 
 // The whole layout, or nothing.
 fn put_whole(tree: &Tree, out: &mut Vec<u8>) -> Result<(), NoMemory>
+    requires { IsShaped tree.now }
     ensures ok { OnOk result (out.new.items ≡ out.old.items ++ layout_of_tree tree.now) }
     ensures err { OnErr result (out.new.items ≡ out.old.items) }
 {
@@ -41,8 +39,9 @@ fn put_whole(tree: &Tree, out: &mut Vec<u8>) -> Result<(), NoMemory>
 }
 
 /// Appends the layout.
-#[tactic(auto, using(crate::proofs::KeepsLemmas::keeps_same, crate::proofs::ListLemmas::pieces_step))]
+#[tactic(auto, using(amdl_tree::proofs::AppendLemmas::keeps_same, crate::proofs::ListLemmas::pieces_step))]
 pub(crate) fn put_tree(tree: &Tree, out: &mut Vec<u8>) -> Result<(), NoMemory>
+    requires { IsShaped tree.now }
     ensures ok { OnOk result (out.new.items ≡ out.old.items ++ layout_of_tree tree.now) }
     ensures kept { Keeps out.old.items out.new.items }
 {

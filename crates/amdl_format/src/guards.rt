@@ -1,13 +1,12 @@
 ghost use Rattle.std.specs.Prelude.{◌≡◌, ◌++◌, codes, OnOk};
 ghost use Rattle.amdl_tree.specs.Layout.{joined, layout_of_atom, layout_of_guard, layout_of_lit};
-ghost use Rattle.amdl_format.specs.Appends.{Keeps};
+ghost use Rattle.amdl_tree.specs.Appends.{Keeps};
 
-use crate::append::put_all;
 use crate::parts::put_atom;
-use amdl_tree::{Atom, Guard, Lit, Name, NoMemory};
+use amdl_tree::{Atom, Guard, Lit, Name, NoMemory, put_all};
 
 /// Appends a guard. Linear in its parts.
-#[tactic(auto, using(crate::proofs::KeepsLemmas::keeps_same, crate::proofs::ListLemmas::led_step_twice, crate::proofs::ListLemmas::led_joined, amdl_tree::proofs::LineLemmas::guard_layout))]
+#[tactic(auto, using(amdl_tree::proofs::AppendLemmas::keeps_same, crate::proofs::ListLemmas::led_step_twice, crate::proofs::ListLemmas::led_joined, amdl_tree::proofs::LineLemmas::guard_layout))]
 #[cycle(guards)]
 pub(crate) fn put_guard(guard: &Guard, out: &mut Vec<u8>) -> Result<(), NoMemory>
     ensures ok { OnOk result (out.new.items ≡ out.old.items ++ layout_of_guard guard.now) }
@@ -22,7 +21,7 @@ pub(crate) fn put_guard(guard: &Guard, out: &mut Vec<u8>) -> Result<(), NoMemory
     Ok(())
 }
 
-#[tactic(auto, using(crate::proofs::KeepsLemmas::keeps_same, crate::proofs::ListLemmas::led_step_twice, crate::proofs::ListLemmas::led_joined))]
+#[tactic(auto, using(amdl_tree::proofs::AppendLemmas::keeps_same, crate::proofs::ListLemmas::led_step_twice, crate::proofs::ListLemmas::led_joined))]
 #[cycle(guards)]
 fn put_conj(lits: &[Lit], out: &mut Vec<u8>) -> Result<(), NoMemory>
     ensures ok { OnOk result (out.new.items ≡ out.old.items ++ joined (codes " and ") layout_of_lit lits.now) }

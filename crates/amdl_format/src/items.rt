@@ -1,16 +1,18 @@
-ghost use Rattle.std.specs.Prelude.{◌≡◌, ◌++◌, [], ◌∷◌, codes, map, OnOk};
+ghost use Rattle.std.specs.Prelude.{◌≡◌, ◌++◌, [], ◌∷◌, All, codes, map, OnOk};
 ghost use Rattle.std.specs.List.{flat_map};
 ghost use Rattle.amdl_tree.specs.Layout.{layout_of_class, layout_of_end, layout_of_first, layout_of_item, layout_of_pattern, layout_of_relation, line, lines_of_handler, lines_within_class, listed};
-ghost use Rattle.amdl_format.specs.Appends.{Keeps};
+ghost use Rattle.amdl_tree.specs.Appends.{Keeps};
+ghost use Rattle.amdl_tree.specs.WellBuilt.{ClassFits, HandlerFits, ItemFits};
 ghost use Rattle.amdl_format.specs.Lines.{line_at, text_at};
 
-use crate::append::{put_all, put_line};
+use crate::append::put_line;
 use crate::parts::{put_end, put_first, put_names, put_pattern, put_tuple};
 use crate::statements::put_block;
-use amdl_tree::{Atom, Class, End, Equal, Handler, Item, Name, NoMemory, Relation};
+use amdl_tree::{Atom, Class, End, Equal, Handler, Item, Name, NoMemory, Relation, put_all};
 
 /// Appends an item with the end of its last line. Linear in its parts, and for each line in its levels.
 pub(crate) fn put_item(item: &Item, out: &mut Vec<u8>) -> Result<(), NoMemory>
+    requires { ItemFits 32 item.now }
     ensures ok { OnOk result (out.new.items ≡ out.old.items ++ line (layout_of_item item.now)) }
     ensures kept { Keeps out.old.items out.new.items }
 {
@@ -67,6 +69,7 @@ fn put_claim(word: &[u8], host: Name, pattern: &[Equal], out: &mut Vec<u8>) -> R
 }
 
 fn put_class(class: &Class, out: &mut Vec<u8>) -> Result<(), NoMemory>
+    requires { ClassFits 32 class.now }
     ensures ok { OnOk result (out.new.items ≡ out.old.items ++ line (layout_of_class class.now)) }
     ensures kept { Keeps out.old.items out.new.items }
 {
@@ -78,6 +81,7 @@ fn put_class(class: &Class, out: &mut Vec<u8>) -> Result<(), NoMemory>
 // The lines between the head of a class and its last brace.
 #[tactic(auto, using(crate::proofs::LineLemmas::text_append))]
 fn put_within_class(class: &Class, out: &mut Vec<u8>) -> Result<(), NoMemory>
+    requires { ClassFits 32 class.now }
     ensures ok { OnOk result (out.new.items ≡ out.old.items ++ text_at 1 (lines_within_class class.now)) }
     ensures kept { Keeps out.old.items out.new.items }
 {
@@ -95,7 +99,7 @@ fn put_ports(ports: &[Name], out: &mut Vec<u8>) -> Result<(), NoMemory>
     put_all(out, &[b";\n"])
 }
 
-#[tactic(auto, using(crate::proofs::KeepsLemmas::keeps_same, crate::proofs::ListLemmas::pieces_step, crate::proofs::LineLemmas::text_of_lines))]
+#[tactic(auto, using(amdl_tree::proofs::AppendLemmas::keeps_same, crate::proofs::ListLemmas::pieces_step, crate::proofs::LineLemmas::text_of_lines))]
 fn put_relations(relations: &[Relation], out: &mut Vec<u8>) -> Result<(), NoMemory>
     ensures ok { OnOk result (out.new.items ≡ out.old.items ++ text_at 1 (map layout_of_relation relations.now)) }
     ensures kept { Keeps out.old.items out.new.items }
@@ -115,8 +119,9 @@ fn put_relation(relation: &Relation, out: &mut Vec<u8>) -> Result<(), NoMemory>
     put_all(out, &[b";\n"])
 }
 
-#[tactic(auto, using(crate::proofs::KeepsLemmas::keeps_same, crate::proofs::ListLemmas::pieces_step, crate::proofs::LineLemmas::text_of_parts))]
+#[tactic(auto, using(amdl_tree::proofs::AppendLemmas::keeps_same, crate::proofs::ListLemmas::pieces_step, crate::proofs::LineLemmas::text_of_parts))]
 fn put_handlers(handlers: &[Handler], out: &mut Vec<u8>) -> Result<(), NoMemory>
+    requires { All (HandlerFits 32) handlers.now }
     ensures ok { OnOk result (out.new.items ≡ out.old.items ++ text_at 1 (flat_map lines_of_handler handlers.now)) }
     ensures kept { Keeps out.old.items out.new.items }
 {
@@ -128,6 +133,7 @@ fn put_handlers(handlers: &[Handler], out: &mut Vec<u8>) -> Result<(), NoMemory>
 
 #[tactic(auto, using(crate::proofs::LineLemmas::text_of_framed))]
 fn put_handler(handler: &Handler, out: &mut Vec<u8>) -> Result<(), NoMemory>
+    requires { HandlerFits 32 handler.now }
     ensures ok { OnOk result (out.new.items ≡ out.old.items ++ text_at 1 (lines_of_handler handler.now)) }
     ensures kept { Keeps out.old.items out.new.items }
 {

@@ -1,5 +1,5 @@
 //! The canonical layout of a tree, appended to a buffer.
-#![tactic(auto, using(crate::proofs::KeepsLemmas::keeps_after, crate::proofs::KeepsLemmas::keeps_appended, crate::proofs::KeepsLemmas::keeps_same))]
+#![tactic(auto, using(amdl_tree::proofs::AppendLemmas::keeps_after, amdl_tree::proofs::AppendLemmas::keeps_appended, amdl_tree::proofs::AppendLemmas::keeps_same))]
 
 mod append;
 mod formatting;

@@ -1,12 +1,11 @@
 ghost use Rattle.std.specs.Prelude.{◌≡◌, ◌++◌, codes, map, OnOk};
 ghost use Rattle.amdl_tree.specs.Layout.{listed, layout_of_atom, layout_of_changes, layout_of_end, layout_of_equal, layout_of_first, layout_of_pattern};
-ghost use Rattle.amdl_format.specs.Appends.{Keeps};
+ghost use Rattle.amdl_tree.specs.Appends.{Keeps};
 
-use crate::append::put_all;
-use amdl_tree::{Atom, End, Equal, Name, NoMemory};
+use amdl_tree::{Atom, End, Equal, Name, NoMemory, put_all};
 
 /// Appends names with commas between. Linear in the names, as each of these is in its parts.
-#[tactic(auto, using(crate::proofs::KeepsLemmas::keeps_same, crate::proofs::ListLemmas::led_step, crate::proofs::ListLemmas::led_names))]
+#[tactic(auto, using(amdl_tree::proofs::AppendLemmas::keeps_same, crate::proofs::ListLemmas::led_step, crate::proofs::ListLemmas::led_names))]
 pub(crate) fn put_names(names: &[Name], out: &mut Vec<u8>) -> Result<(), NoMemory>
     ensures ok { OnOk result (out.new.items ≡ out.old.items ++ listed names.now) }
     ensures kept { Keeps out.old.items out.new.items }
@@ -48,7 +47,7 @@ pub(crate) fn put_pattern(pattern: &[Equal], out: &mut Vec<u8>) -> Result<(), No
     put_equals(pattern, out)
 }
 
-#[tactic(auto, using(crate::proofs::KeepsLemmas::keeps_same, crate::proofs::ListLemmas::led_step, crate::proofs::ListLemmas::led_listed))]
+#[tactic(auto, using(amdl_tree::proofs::AppendLemmas::keeps_same, crate::proofs::ListLemmas::led_step, crate::proofs::ListLemmas::led_listed))]
 fn put_equals(equals: &[Equal], out: &mut Vec<u8>) -> Result<(), NoMemory>
     ensures ok { OnOk result (out.new.items ≡ out.old.items ++ listed (map layout_of_equal equals.now)) }
     ensures kept { Keeps out.old.items out.new.items }
@@ -65,7 +64,7 @@ fn put_equals(equals: &[Equal], out: &mut Vec<u8>) -> Result<(), NoMemory>
 }
 
 /// Appends the changes of an `output` in brackets, and nothing where there are none.
-#[tactic(auto, using(crate::proofs::KeepsLemmas::keeps_same, crate::proofs::ListLemmas::led_step, crate::proofs::ListLemmas::led_changes))]
+#[tactic(auto, using(amdl_tree::proofs::AppendLemmas::keeps_same, crate::proofs::ListLemmas::led_step, crate::proofs::ListLemmas::led_changes))]
 pub(crate) fn put_changes(changes: &[Equal], out: &mut Vec<u8>) -> Result<(), NoMemory>
     ensures ok { OnOk result (out.new.items ≡ out.old.items ++ layout_of_changes changes.now) }
     ensures kept { Keeps out.old.items out.new.items }
@@ -85,7 +84,7 @@ pub(crate) fn put_changes(changes: &[Equal], out: &mut Vec<u8>) -> Result<(), No
 }
 
 /// Appends the tuples that a box starts with behind `with`, and nothing where there are none.
-#[tactic(auto, using(crate::proofs::KeepsLemmas::keeps_same, crate::proofs::ListLemmas::led_step_twice, crate::proofs::ListLemmas::led_first))]
+#[tactic(auto, using(amdl_tree::proofs::AppendLemmas::keeps_same, crate::proofs::ListLemmas::led_step_twice, crate::proofs::ListLemmas::led_first))]
 pub(crate) fn put_first(first: &[Atom], out: &mut Vec<u8>) -> Result<(), NoMemory>
     ensures ok { OnOk result (out.new.items ≡ out.old.items ++ layout_of_first first.now) }
     ensures kept { Keeps out.old.items out.new.items }

@@ -1,23 +1,25 @@
-ghost use Rattle.std.specs.Prelude.{◌≡◌, ◌++◌, [], ◌∷◌, codes, map, OnOk};
+ghost use Rattle.std.specs.Prelude.{◌≡◌, ◌++◌, [], ◌∷◌, ◌-◌, ◌≤◌, All, codes, map, OnOk};
 ghost use Rattle.std.specs.List.{flat_map};
 ghost use Rattle.amdl_tree.specs.Layout.{branch_of_alternative, indented, layout_of_atom, layout_of_changes, layout_of_guard, lines_of_choice, lines_of_statement};
-ghost use Rattle.amdl_format.specs.Appends.{Keeps};
+ghost use Rattle.amdl_tree.specs.Appends.{Keeps};
+ghost use Rattle.amdl_tree.specs.WellBuilt.{AlternativeFits, StmtFits};
 ghost use Rattle.amdl_format.specs.Lines.{branch_behind, branches_behind, line_at, text_at};
 
-use crate::append::{put_all, put_blanks, put_line};
+use crate::append::{put_blanks, put_line};
 use crate::guards::put_guard;
 use crate::parts::{put_atom, put_changes};
-use amdl_tree::{Alternative, Atom, Equal, Guard, Name, NoMemory, Stmt};
+use amdl_tree::{Alternative, Atom, Equal, Guard, Name, NoMemory, Stmt, put_all};
 
 /// Appends statements one level further in. Linear in their parts, and for each line in its levels.
-#[tactic(auto, using(crate::proofs::KeepsLemmas::keeps_same, crate::proofs::ListLemmas::pieces_step, crate::proofs::LineLemmas::text_of_block))]
+#[tactic(auto, using(amdl_tree::proofs::AppendLemmas::keeps_same, crate::proofs::ListLemmas::pieces_step, crate::proofs::LineLemmas::text_of_block))]
 #[cycle(statements)]
 pub(crate) fn put_block(body: &[Stmt], level: usize, out: &mut Vec<u8>) -> Result<(), NoMemory>
+    requires room { level ≤ 33 }
+    requires fits { All (StmtFits (33 - level)) body.now }
     ensures ok { OnOk result (out.new.items ≡ out.old.items ++ text_at level (indented (flat_map lines_of_statement body.now))) }
     ensures kept { Keeps out.old.items out.new.items }
 {
-    // A line so far in that its level is no number of 64 bits would need more memory than there is.
-    let inner = level.checked_add(1).ok_or(NoMemory)?;
+    let inner = level + 1;
     for stmt in body {
         put_statement(stmt, inner, out)?;
     }
@@ -27,6 +29,8 @@ pub(crate) fn put_block(body: &[Stmt], level: usize, out: &mut Vec<u8>) -> Resul
 #[tactic(auto, using(crate::proofs::FormLemmas::insert_text, crate::proofs::FormLemmas::remove_text, crate::proofs::FormLemmas::abort_text, crate::proofs::FormLemmas::output_text, crate::proofs::FormLemmas::choose_text, crate::proofs::FormLemmas::pick_text))]
 #[cycle(statements)]
 fn put_statement(stmt: &Stmt, level: usize, out: &mut Vec<u8>) -> Result<(), NoMemory>
+    requires room { level ≤ 34 }
+    requires fits { StmtFits (34 - level) stmt.now }
     ensures ok { OnOk result (out.new.items ≡ out.old.items ++ text_at level (lines_of_statement stmt.now)) }
     ensures kept { Keeps out.old.items out.new.items }
 {
@@ -49,6 +53,8 @@ fn put_pick(
     level: usize,
     out: &mut Vec<u8>,
 ) -> Result<(), NoMemory>
+    requires room { level ≤ 33 }
+    requires fits { All (StmtFits (33 - level)) body.now }
     ensures ok { OnOk result (out.new.items ≡ out.old.items ++ text_at level ((codes "pick " ++ name ++ codes " : " ++ kind ++ codes " in {") ∷ indented (flat_map lines_of_statement body.now) ++ codes "}" ∷ [])) }
     ensures kept { Keeps out.old.items out.new.items }
 {
@@ -90,6 +96,8 @@ fn put_output(
 #[tactic(auto, using(crate::proofs::LineLemmas::text_append))]
 #[cycle(statements)]
 fn put_choice(alternatives: &[Alternative], level: usize, out: &mut Vec<u8>) -> Result<(), NoMemory>
+    requires room { level ≤ 33 }
+    requires fits { All (AlternativeFits (33 - level)) alternatives.now }
     ensures ok { OnOk result (out.new.items ≡ out.old.items ++ text_at level (lines_of_choice (map branch_of_alternative alternatives.now))) }
     ensures kept { Keeps out.old.items out.new.items }
 {
@@ -106,6 +114,8 @@ fn put_alternatives(
     level: usize,
     out: &mut Vec<u8>,
 ) -> Result<(), NoMemory>
+    requires room { level ≤ 33 }
+    requires fits { All (AlternativeFits (33 - level)) alternatives.now }
     ensures ok { OnOk result (out.new.items ≡ out.old.items ++ text_at level (branches_behind (codes "if ") (map branch_of_alternative alternatives.now))) }
     ensures kept { Keeps out.old.items out.new.items }
 {
@@ -125,6 +135,8 @@ fn put_alternative(
     level: usize,
     out: &mut Vec<u8>,
 ) -> Result<(), NoMemory>
+    requires room { level ≤ 33 }
+    requires fits { AlternativeFits (33 - level) alternative.now }
     ensures ok { OnOk result (out.new.items ≡ out.old.items ++ text_at level (branch_behind before.now (branch_of_alternative alternative.now))) }
     ensures kept { Keeps out.old.items out.new.items }
 {

@@ -1,7 +1,7 @@
 use Rattle.std.proofs.Common.{◌≡◌, ◌++◌, drop}
 use Rattle.std.specs.List.{flat_map}
 use Rattle.amdl_tree.specs.Layout.{layout_of_item, layout_of_tree, line}
-use Rattle.amdl_format.specs.Appends.{Keeps}
+use Rattle.amdl_tree.specs.Appends.{Keeps}
 use Rattle.amdl_format.proofs.formatting.put_tree.Given as goal
 
 abbrev pub invariant-loop-item : goal.invariant-loop-item

@@ -1,6 +1,6 @@
 use Rattle.std.proofs.Common.{codes}
 use Rattle.amdl_tree.specs.Layout.{joined, layout_of_lit}
-use Rattle.amdl_format.proofs.KeepsLemmas.{keeps_after}
+use Rattle.amdl_tree.proofs.AppendLemmas.{keeps_after}
 use Rattle.amdl_format.proofs.ListLemmas.{led_step_twice}
 use Rattle.amdl_format.proofs.guards.+guards.Goals as goal
 

@@ -1,7 +1,7 @@
 use Rattle.std.proofs.Common.{◌≡◌, ℕ, List, ◌++◌, codes, ap, ◌∙◌, append_assoc}
 use Rattle.amdl_tree.specs.Layout.{line, lines_within_class}
 use Rattle.amdl_format.specs.Lines.{text_at}
-use Rattle.amdl_format.proofs.KeepsLemmas.{appended_after, then_text}
+use Rattle.amdl_tree.proofs.AppendLemmas.{appended_after, then_text}
 use Rattle.amdl_format.proofs.LineLemmas.{class_parts}
 use Rattle.amdl_format.proofs.items.put_class.Goals as goal
 

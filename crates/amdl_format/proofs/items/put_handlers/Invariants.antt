@@ -1,7 +1,7 @@
 use Rattle.std.proofs.Common.{◌≡◌, ◌++◌, drop}
 use Rattle.std.specs.List.{flat_map}
 use Rattle.amdl_tree.specs.Layout.{lines_of_handler}
-use Rattle.amdl_format.specs.Appends.{Keeps}
+use Rattle.amdl_tree.specs.Appends.{Keeps}
 use Rattle.amdl_format.specs.Lines.{text_at}
 use Rattle.amdl_format.proofs.items.put_handlers.Given as goal
 

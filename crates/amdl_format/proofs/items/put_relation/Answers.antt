@@ -2,7 +2,7 @@ use Rattle.std.proofs.Common.{◌≡◌, ℕ, List, ◌++◌, codes, append_asso
 use Rattle.amdl_tree.specs.Layout.{layout_of_relation, listed}
 use Rattle.amdl_tree.specs.declared.class.Relation.{Relation}
 use Rattle.amdl_format.specs.Lines.{line_at}
-use Rattle.amdl_format.proofs.KeepsLemmas.{appended_after, then_text}
+use Rattle.amdl_tree.proofs.AppendLemmas.{appended_after, then_text}
 use Rattle.amdl_format.proofs.items.put_relation.Goals as goal
 
 -- a relation with its types, as it is put

@@ -1,6 +1,6 @@
 use Rattle.amdl_tree.specs.Layout.{layout_of_relation}
 use Rattle.amdl_format.specs.Lines.{line_at}
-use Rattle.amdl_format.proofs.KeepsLemmas.{keeps_after}
+use Rattle.amdl_tree.proofs.AppendLemmas.{keeps_after}
 use Rattle.amdl_format.proofs.ListLemmas.{pieces_step}
 use Rattle.amdl_format.proofs.items.put_relations.Goals as goal
 

@@ -1,7 +1,7 @@
 use Rattle.std.proofs.Common.{◌++◌, codes, sym, ◌∙◌}
 use Rattle.amdl_tree.specs.Layout.{layout_of_change}
 use Rattle.amdl_format.specs.Lines.{led}
-use Rattle.amdl_format.proofs.KeepsLemmas.{then_text}
+use Rattle.amdl_tree.proofs.AppendLemmas.{then_text}
 use Rattle.amdl_format.proofs.ListLemmas.{led_changes, led_done}
 use Rattle.amdl_format.proofs.parts.put_changes.Goals as goal
 

@@ -1,6 +1,6 @@
 use Rattle.std.proofs.Common.{◌≡◌, ◌++◌, codes, drop}
 use Rattle.amdl_tree.specs.Layout.{layout_of_atom, layout_of_first}
-use Rattle.amdl_format.specs.Appends.{Keeps}
+use Rattle.amdl_tree.specs.Appends.{Keeps}
 use Rattle.amdl_format.specs.Lines.{led}
 use Rattle.amdl_format.proofs.parts.put_first.Given as goal
 

@@ -1,7 +1,7 @@
-use Rattle.std.proofs.Common.{◌≡◌, ◌++◌, codes, drop, map}
+use Rattle.std.proofs.Common.{◌≡◌, ◌+◌, ◌-◌, ◌*◌, ◌++◌, codes, drop, map}
 use Rattle.std.specs.List.{flat_map}
 use Rattle.amdl_tree.specs.Layout.{branch_of_alternative, indented, lines_of_statement}
-use Rattle.amdl_format.specs.Appends.{Keeps}
+use Rattle.amdl_tree.specs.Appends.{Keeps}
 use Rattle.amdl_format.specs.Lines.{branches_behind, text_at}
 use Rattle.amdl_format.proofs.statements.+statements.Given as goal
 
@@ -16,3 +16,21 @@ invariant-put_alternatives-loop-alternative l = record {
   text : l.out.items ++ text_at l.level (branches_behind l.before (map branch_of_alternative (drop l.alternative-index l.alternatives))) ≡ l.fn.out.items ++ text_at l.level (branches_behind (codes "if ") (map branch_of_alternative l.alternatives));
   kept : Keeps l.fn.out.items l.out.items;
 }
+
+abbrev pub decreases-put_block : goal.decreases-put_block
+decreases-put_block l = 8 * (33 - l.level) + 2
+
+abbrev pub decreases-put_statement : goal.decreases-put_statement
+decreases-put_statement l = 8 * (34 - l.level) + 1
+
+abbrev pub decreases-put_pick : goal.decreases-put_pick
+decreases-put_pick l = 8 * (33 - l.level) + 3
+
+abbrev pub decreases-put_choice : goal.decreases-put_choice
+decreases-put_choice l = 8 * (33 - l.level) + 5
+
+abbrev pub decreases-put_alternatives : goal.decreases-put_alternatives
+decreases-put_alternatives l = 8 * (33 - l.level) + 4
+
+abbrev pub decreases-put_alternative : goal.decreases-put_alternative
+decreases-put_alternative l = 8 * (33 - l.level) + 3
