@@ -1,5 +1,6 @@
 mod AnswerLemmas
 mod Listing
+mod LoadLemmas
 mod PromiseLemmas
 mod SafeLemmas
 mod Words

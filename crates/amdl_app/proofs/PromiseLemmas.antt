@@ -1,268 +1,330 @@
 -- A call of the program keeps each promise.
-use Rattle.std.proofs.Common.{◌≡◌, ℕ, ◌<◌, ◌≤◌, ◌⊎◌, inl, inr, List, [], ◌∷◌, Option, Some, None, refl, sym, ap, subst, ◌∙◌, arith, length}
+use Rattle.std.proofs.Common.{◌≡◌, ℕ, ◌≤◌, ◌⊎◌, inl, inr, List, [], ◌∷◌, Option, Some, None, Result, Ok, Err, refl, sym, ap, subst, ◌∙◌, arith}
+use Rattle.std.specs.List.{Contains}
 use Rattle.std.specs.Io.KnownBytes.{append_known}
 use Rattle.std.proofs.lemmas.List.{append-nil}
+use Rattle.std.proofs.lemmas.List.Elements.{Contains-push}
+use Rattle.amdl_tree.specs.declared.tree.Tree.{Tree}
 use Rattle.net_plan.specs.declared.fact.Fact.{Fact}
+use Rattle.network_file.specs.declared.reading.ReadRefusal.{ReadRefusal}
 use Rattle.outside.specs.Faults.{Rose}
-use Rattle.outside.specs.Files.{FileMap, file_of}
+use Rattle.outside.specs.Files.{FileMap, LacksFile}
 use Rattle.outside.specs.Sink.{AppendsFront}
-use Rattle.plan_text.specs.Messages.{usage_text, fault_load_text}
-use Rattle.amdl_app.specs.Reply.{Reply, says}
-use Rattle.amdl_app.specs.Command.{Analyse, Asks, AskNothing}
-use Rattle.amdl_app.specs.Report.{IsTextReply, longer as text_longer, formless, reported, text_limit, status_of, HasNarrowForm}
-use Rattle.amdl_app.specs.Answer.{IsFileReply, IsAnswer, unasked, asked}
-use Rattle.amdl_app.specs.Outcome.{IsAnalysis, loaded, longer, missing, failed as load_failed, IsOutcome, usage, asked as carried_out, whole, failed, unfinished, IsCall, no_memory, replied}
-use Rattle.amdl_app.specs.Promises.{GivesAnswer, AnswersUpToThree, AnswersUnhindered, UsageIsRight, IsRefusable, RefusalIsRight, IsFileFault, lacks, fails, FileFaultIsRight, IsCut, nothing, part, fault, CutsAreFronts, WhereTold}
-use Rattle.amdl_app.proofs.AnswerLemmas.{network_is_asked}
+use Rattle.plan_text.specs.Messages.{usage_text, missing_text, fault_load_text}
+use Rattle.plan_text.specs.declared.refusal.NetworkRefusal.{NetworkRefusal}
+use Rattle.plan_text.specs.declared.refusal.NetworkRefusal.TheVariants.{TooLong, FirstForm}
+use Rattle.amdl_app.specs.Reply.{Reply, says, refuses}
+use Rattle.amdl_app.specs.Command.{Command, Analyse, Format, Asks, AskNothing, Input, LoadsFile, network_input, inputs_of}
+use Rattle.amdl_app.specs.Loaded.{Loaded, Found, Over, Lacking, Failed, Tells, MayCome, EachComes}
+use Rattle.amdl_app.specs.Report.{IsAnalysis, formless, reported, status_of}
+use Rattle.amdl_app.specs.Formatting.{IsFormatting, formatted, refusal_of}
+use Rattle.amdl_app.specs.Answer.{AfterNetwork, IsCommandReply, IsReply, IsAnswer, unasked, asked}
+use Rattle.amdl_app.specs.Laws.{AnswerIsUnique}
+use Rattle.amdl_app.specs.Outcome.{whole, failed, unfinished, IsCall, no_memory, replied}
+use Rattle.amdl_app.specs.Promises.{GivesAnswer, AnswersUpToThree, AnswersUnhindered, UsageIsRight, IsRefused, RefusalIsRight, IsFileFault, lacks, fails, FileFaultIsRight, SinkFaultIsRight, IsCut, nothing, part, fault, CutsAreFronts}
+use Rattle.amdl_app.specs.Seen.{FilesSeen, Seen, WhereTold}
 
--- loading the file of the command failed
-pub record IsFault (words : List (List ℕ)) (faults now : ℕ) (reply : Reply) : Type 0 where
-  pub rose : Rose faults now
-  pub network : List ℕ
-  pub asks : Asks words (Analyse network)
-  pub told : reply ≡ says 4 (fault_load_text network)
+-- what a reply to a text is
+data TextKind (reply : Reply) : Type 0 where
+  well : reply.status ≤ 1 → TextKind reply
+  ill : (refusal : NetworkRefusal) → reply ≡ refuses refusal → TextKind reply
 
--- what the work comes to is the answer, or the text of a fault
-analysis_answers : (words : List (List ℕ)) (network : List ℕ) (files : FileMap) (told : Option FileMap) (faults now : ℕ) (reply : Reply) →
-    told ≡ Some files → Asks words (Analyse network) → IsAnalysis network told faults now reply → IsAnswer words files reply ⊎ IsFault words faults now reply
-analysis_answers words network files told faults now reply is asks (loaded text there reply') =
-    inl (asked (Analyse network) asks (subst (λ (file : Option (List ℕ)). IsFileReply network file reply) (sym (there files is)) reply'))
-analysis_answers words network files told faults now reply is asks (longer over e) =
-    let file = over files is in
-    inl (asked (Analyse network) asks (subst (λ (f : Option (List ℕ)). IsFileReply network f reply) (sym file.1) (text_longer file.2 e)))
-analysis_answers words network files told faults now reply is asks (missing lacking e) =
-    inl (asked (Analyse network) asks (subst (λ (f : Option (List ℕ)). IsFileReply network f reply) (sym (lacking.absent files is)) e))
-analysis_answers words network files told faults now reply is asks (load_failed rose e) = inr (record { rose = rose; network = network; asks = asks; told = e })
-
-outcome_answers : (words : List (List ℕ)) (files : FileMap) (told : Option FileMap) (faults now : ℕ) (reply : Reply) →
-    told ≡ Some files → IsOutcome words told faults now reply → IsAnswer words files reply ⊎ IsFault words faults now reply
-outcome_answers words files told faults now reply is (usage none e) = inl (unasked none e)
-outcome_answers words files told faults now reply is (carried_out (Analyse network) asks analysed) = analysis_answers words network files told faults now reply is asks analysed
-
--- the status of each reply
 report_status : (bad : List Fact) → status_of bad ≤ 1
 report_status [] = omega arith
 report_status (fact ∷ facts) = omega arith
 
-text_reply_status : (text : List ℕ) (reply : Reply) → IsTextReply text reply → reply.status ≤ 3
-text_reply_status text reply (text_longer over e) = let s : reply.status ≡ 3 = ap (λ (r : Reply). r.status) e in omega arith
-text_reply_status text reply (formless within none e) = let s : reply.status ≡ 3 = ap (λ (r : Reply). r.status) e in omega arith
-text_reply_status text reply (reported within tree narrow layout report) =
-    let s : reply.status ≡ status_of report.bad = ap (λ (r : Reply). r.status) report.told in
-    omega (arith, report_status report.bad)
+analysis_kind : (text : List ℕ) (reply : Reply) → IsAnalysis text reply → TextKind reply
+analysis_kind text reply (formless none e) = ill FirstForm e
+analysis_kind text reply (reported tree narrow layout report) =
+    let s : reply.status ≡ status_of report.bad = ap (λ (r : Reply). r.status) report.told in well (omega (arith, report_status report.bad))
 
-analysis_status : (network : List ℕ) (told : Option FileMap) (faults now : ℕ) (reply : Reply) → IsAnalysis network told faults now reply → reply.status ≤ 4
-analysis_status network told faults now reply (loaded text there reply') = omega (arith, text_reply_status text reply reply')
-analysis_status network told faults now reply (longer over e) = let s : reply.status ≡ 3 = ap (λ (r : Reply). r.status) e in omega arith
-analysis_status network told faults now reply (missing lacking e) = let s : reply.status ≡ 4 = ap (λ (r : Reply). r.status) e in omega arith
-analysis_status network told faults now reply (load_failed rose e) = let s : reply.status ≡ 4 = ap (λ (r : Reply). r.status) e in omega arith
+formatted_kind : (reading : Result Tree ReadRefusal) (reply : Reply) → reply ≡ formatted reading → TextKind reply
+formatted_kind (Ok tree) reply e = let s : reply.status ≡ 0 = ap (λ (r : Reply). r.status) e in well (omega arith)
+formatted_kind (Err refusal) reply e = ill (refusal_of refusal) e
 
-pub outcome_status : (words : List (List ℕ)) (told : Option FileMap) (faults now : ℕ) (reply : Reply) → IsOutcome words told faults now reply → reply.status ≤ 4
-outcome_status words told faults now reply (usage none e) = let s : reply.status ≡ 2 = ap (λ (r : Reply). r.status) e in omega arith
-outcome_status words told faults now reply (carried_out (Analyse network) asks analysed) = analysis_status network told faults now reply analysed
+formatting_kind : (text : List ℕ) (reply : Reply) → IsFormatting text reply → TextKind reply
+formatting_kind text reply f = formatted_kind f.reading reply f.told
 
-module _ (words : List (List ℕ)) (told : Option FileMap) (faults faults_now : ℕ) (written now : Option (List ℕ)) (sink sink_now status : ℕ) where
+-- what a reply is
+data Kind (words : List (List ℕ)) (before after : FilesSeen) (reply : Reply) : Type 0 where
+  usage : AskNothing words → reply ≡ says 2 usage_text → Kind words before after reply
+  good : reply.status ≤ 1 → Kind words before after reply
+  refusing : (refusal : NetworkRefusal) → reply ≡ refuses refusal → Kind words before after reply
+  lacking : (name : List ℕ) → LoadsFile words name → LacksFile before.told name before.faults after.faults → reply ≡ says 4 (missing_text name) → Kind words before after reply
+  failing : (name : List ℕ) → LoadsFile words name → Rose before.faults after.faults → reply ≡ says 4 (fault_load_text name) → Kind words before after reply
+
+of_text : (words : List (List ℕ)) (before after : FilesSeen) (reply : Reply) → TextKind reply → Kind words before after reply
+of_text words before after reply (well small) = good small
+of_text words before after reply (ill refusal e) = refusing refusal e
+
+-- loading a file of the command failed
+pub record IsFault (words : List (List ℕ)) (before after : FilesSeen) (reply : Reply) : Type 0 where
+  pub rose : Rose before.faults after.faults
+  pub name : List ℕ
+  pub loads : LoadsFile words name
+  pub told : reply ≡ says 4 (fault_load_text name)
+
+-- an outcome is what the map tells, or a failure
+may_tells : (before after : FilesSeen) (files : FileMap) → before.told ≡ Some files → (input : Input) (loaded : Loaded) → MayCome before after input loaded →
+    Tells files input loaded ⊎ ((loaded ≡ Failed) × Rose before.faults after.faults)
+may_tells before after files is input (Found text) may = inl (may.0, may.1 files is)
+may_tells before after files is input Over may = inl (may files is)
+may_tells before after files is input Lacking may = inl (may.absent files is)
+may_tells before after files is input Failed may = inr (refl, may)
+
+-- a command that loads one network
+module _ (words : List (List ℕ)) (before after : FilesSeen) (name : List ℕ) (there : LoadsFile words name) (goes_on : List ℕ → List Loaded → Reply → Type 0) where
+  abbrev Comes : (Input → Loaded → Type 0) → List Loaded → Type 0
+  Comes comes loads = EachComes comes (network_input name ∷ []) loads
+
+  after_kind : ((text : List ℕ) (others : List Loaded) (reply : Reply) → goes_on text others reply → TextKind reply) →
+      (loads : List Loaded) (reply : Reply) → Comes (MayCome before after) loads → AfterNetwork name goes_on loads reply → Kind words before after reply
+  after_kind kind [] reply each p = absurd each
+  after_kind kind (loaded ∷ other ∷ others) reply each p = absurd each.1
+  after_kind kind (Found text ∷ []) reply each p = of_text words before after reply (kind text [] reply p)
+  after_kind kind (Over ∷ []) reply each p = refusing TooLong p
+  after_kind kind (Lacking ∷ []) reply each p = lacking name there each.0 p
+  after_kind kind (Failed ∷ []) reply each p = failing name there each.0 p
+
+  after_tells : (files : FileMap) → before.told ≡ Some files → (loads : List Loaded) (reply : Reply) → Comes (MayCome before after) loads → AfterNetwork name goes_on loads reply →
+      Comes (Tells files) loads ⊎ IsFault words before after reply
+  after_tells files is [] reply each p = absurd each
+  after_tells files is (loaded ∷ other ∷ others) reply each p = absurd each.1
+  after_tells files is (loaded ∷ []) reply each p =
+      elim (may_tells before after files is (network_input name) loaded each.0) [
+        | inl told ↦ inl (told, tt)
+        | inr failure ↦ inr (record { rose = failure.1; name = name; loads = there; told = subst (λ (l : Loaded). AfterNetwork name goes_on (l ∷ []) reply) failure.0 p })
+      ]
+
+loads_one : (words : List (List ℕ)) (command : Command) (name : List ℕ) → Asks words command → inputs_of command ≡ network_input name ∷ [] → LoadsFile words name
+loads_one words command name asks one =
+    record { command = command; asks = asks; input = network_input name; loads = subst (λ (inputs : List Input). Contains inputs (network_input name)) (sym one) (Contains-push [] (network_input name)); named = refl }
+
+module _ (words : List (List ℕ)) (before after : FilesSeen) where
+  analyses : (network : List ℕ) → Asks words (Analyse network) → LoadsFile words network
+  analyses network asks = loads_one words (Analyse network) network asks refl
+
+  formats : (network : List ℕ) → Asks words (Format network) → LoadsFile words network
+  formats network asks = loads_one words (Format network) network asks refl
+
+  kind_of : (reply : Reply) → IsReply (MayCome before after) words reply → Kind words before after reply
+  kind_of reply (unasked none e) = usage none e
+  kind_of reply (asked (Analyse network) asks (loads, each, p)) =
+      after_kind words before after network (analyses network asks) (λ text others. IsAnalysis text) (λ text others. analysis_kind text) loads reply each p
+  kind_of reply (asked (Format network) asks (loads, each, p)) =
+      after_kind words before after network (formats network asks) (λ text others. IsFormatting text) (λ text others. formatting_kind text) loads reply each p
+
+  -- what the work comes to is the answer, or the text of a fault
+  pub reply_answers : (files : FileMap) (reply : Reply) → before.told ≡ Some files → IsReply (MayCome before after) words reply → IsAnswer words files reply ⊎ IsFault words before after reply
+  reply_answers files reply is (unasked none e) = inl (unasked none e)
+  reply_answers files reply is (asked (Analyse network) asks (loads, each, p)) =
+      elim (after_tells words before after network (analyses network asks) (λ text others. IsAnalysis text) files is loads reply each p) [
+        | inl told ↦ inl (asked (Analyse network) asks (loads, told, p))
+        | inr failure ↦ inr failure
+      ]
+  reply_answers files reply is (asked (Format network) asks (loads, each, p)) =
+      elim (after_tells words before after network (formats network asks) (λ text others. IsFormatting text) files is loads reply each p) [
+        | inl told ↦ inl (asked (Format network) asks (loads, told, p))
+        | inr failure ↦ inr failure
+      ]
+
+  -- the status of each kind
+  kind_status : (reply : Reply) → Kind words before after reply → reply.status ≤ 4
+  kind_status reply (usage none e) = let s : reply.status ≡ 2 = ap (λ (r : Reply). r.status) e in omega arith
+  kind_status reply (good small) = omega arith
+  kind_status reply (refusing refusal e) = let s : reply.status ≡ 3 = ap (λ (r : Reply). r.status) e in omega arith
+  kind_status reply (lacking name there lack e) = let s : reply.status ≡ 4 = ap (λ (r : Reply). r.status) e in omega arith
+  kind_status reply (failing name there rose e) = let s : reply.status ≡ 4 = ap (λ (r : Reply). r.status) e in omega arith
+
+  pub reply_status : (reply : Reply) → IsReply (MayCome before after) words reply → reply.status ≤ 4
+  reply_status reply p = kind_status reply (kind_of reply p)
+
+  two_is_usage : (reply : Reply) → Kind words before after reply → reply.status ≡ 2 → AskNothing words × (reply ≡ says 2 usage_text)
+  two_is_usage reply (usage none e) two = (none, e)
+  two_is_usage reply (good small) two = absurd (omega arith)
+  two_is_usage reply (refusing refusal e) two = let s : reply.status ≡ 3 = ap (λ (r : Reply). r.status) e in absurd (omega arith)
+  two_is_usage reply (lacking name there lack e) two = let s : reply.status ≡ 4 = ap (λ (r : Reply). r.status) e in absurd (omega arith)
+  two_is_usage reply (failing name there rose e) two = let s : reply.status ≡ 4 = ap (λ (r : Reply). r.status) e in absurd (omega arith)
+
+  three_is_refusal : (reply : Reply) → Kind words before after reply → reply.status ≡ 3 → (refusal : NetworkRefusal) × (reply ≡ refuses refusal)
+  three_is_refusal reply (usage none e) three = let s : reply.status ≡ 2 = ap (λ (r : Reply). r.status) e in absurd (omega arith)
+  three_is_refusal reply (good small) three = absurd (omega arith)
+  three_is_refusal reply (refusing refusal e) three = (refusal, e)
+  three_is_refusal reply (lacking name there lack e) three = let s : reply.status ≡ 4 = ap (λ (r : Reply). r.status) e in absurd (omega arith)
+  three_is_refusal reply (failing name there rose e) three = let s : reply.status ≡ 4 = ap (λ (r : Reply). r.status) e in absurd (omega arith)
+
+  not_asked : (reply : Reply) → AskNothing words → IsReply (MayCome before after) words reply → reply ≡ says 2 usage_text
+  not_asked reply none (unasked none' e) = e
+  not_asked reply none (asked command asks p) = absurd (none command asks)
+
+module _ (words : List (List ℕ)) (before after : Seen) (status : ℕ) where
   abbrev Called : Type 0
-  Called = IsCall words told faults faults_now written now sink sink_now status
+  Called = IsCall words before after status
+
+  abbrev Replies : Reply → Type 0
+  Replies reply = IsReply (MayCome before.files after.files) words reply
+
+  abbrev Fronts : List ℕ → Type 0
+  Fronts text = AppendsFront before.sink.written after.sink.written text
+
+  most : (reply : Reply) → Replies reply → reply.status ≤ 4
+  most = reply_status words before.files after.files
 
   pub status_in_range : Called → status ≤ 6
-  status_in_range (no_memory s e) = omega arith
-  status_in_range (replied reply outcome (whole s e)) = omega (arith, outcome_status words told faults faults_now reply outcome)
-  status_in_range (replied reply outcome (failed s rose front)) = omega arith
-  status_in_range (replied reply outcome (unfinished s front)) = omega arith
+  status_in_range (no_memory s e f) = omega arith
+  status_in_range (replied reply p f (whole s e)) = omega (arith, most reply p)
+  status_in_range (replied reply p f (failed s rose front)) = omega arith
+  status_in_range (replied reply p f (unfinished s front)) = omega arith
 
   -- a whole reply with another status than that of a fault is the answer's
-  given : (files : FileMap) (reply : Reply) → told ≡ Some files → IsOutcome words told faults faults_now reply →
-      (IsFault words faults faults_now reply → ⊥) → status ≡ reply.status → now ≡ append_known written reply.text → GivesAnswer words files written now status
-  given files reply is outcome no_fault s e =
+  given : (files : FileMap) (reply : Reply) → before.files.told ≡ Some files → Replies reply →
+      (IsFault words before.files after.files reply → ⊥) → status ≡ reply.status → after.sink.written ≡ append_known before.sink.written reply.text →
+      GivesAnswer words files before after status
+  given files reply is p no_fault s e =
       record {
         reply = reply;
-        answer = elim (outcome_answers words files told faults faults_now reply is outcome) [ inl answer ↦ answer | inr fault' ↦ absurd (no_fault fault') ];
+        answer = elim (reply_answers words before.files after.files files reply is p) [ inl answer ↦ answer | inr failure ↦ absurd (no_fault failure) ];
         status_is = s;
         text_is = e;
       }
 
-  pub answers_up_to_three : Called → AnswersUpToThree words told written now status
-  answers_up_to_three (no_memory s e) small files is = absurd (omega arith)
-  answers_up_to_three (replied reply outcome (whole s e)) small files is =
-      given files reply is outcome (λ fault'. let four : reply.status ≡ 4 = ap (λ (r : Reply). r.status) fault'.told in absurd (omega arith)) s e
-  answers_up_to_three (replied reply outcome (failed s rose front)) small files is = absurd (omega arith)
-  answers_up_to_three (replied reply outcome (unfinished s front)) small files is = absurd (omega arith)
+  fault_is_four : (reply : Reply) → IsFault words before.files after.files reply → reply.status ≡ 4
+  fault_is_four reply failure = ap (λ (r : Reply). r.status) failure.told
 
-  pub answers_unhindered : Called → AnswersUnhindered words told faults faults_now sink sink_now written now status
-  answers_unhindered (no_memory s e) quiet_files quiet_sink enough files is = absurd (enough s)
-  answers_unhindered (replied reply outcome (whole s e)) quiet_files quiet_sink enough files is =
-      given files reply is outcome (λ fault'. quiet_files fault'.rose) s e
-  answers_unhindered (replied reply outcome (failed s rose front)) quiet_files quiet_sink enough files is = absurd (quiet_sink rose)
-  answers_unhindered (replied reply outcome (unfinished s front)) quiet_files quiet_sink enough files is = absurd (enough s)
+  pub answers_up_to_three : Called → AnswersUpToThree words before after status
+  answers_up_to_three (no_memory s e f) small files is = absurd (omega arith)
+  answers_up_to_three (replied reply p f (whole s e)) small files is =
+      given files reply is p (λ failure. let four : reply.status ≡ 4 = fault_is_four reply failure in absurd (omega arith)) s e
+  answers_up_to_three (replied reply p f (failed s rose front)) small files is = absurd (omega arith)
+  answers_up_to_three (replied reply p f (unfinished s front)) small files is = absurd (omega arith)
 
-  pub sink_fault_only : Called → status ≡ 5 → Rose sink sink_now
-  sink_fault_only (no_memory s e) five = absurd (omega arith)
-  sink_fault_only (replied reply outcome (whole s e)) five = absurd (omega (arith, outcome_status words told faults faults_now reply outcome))
-  sink_fault_only (replied reply outcome (failed s rose front)) five = rose
-  sink_fault_only (replied reply outcome (unfinished s front)) five = absurd (omega arith)
+  pub answers_unhindered : Called → AnswersUnhindered words before after status
+  answers_unhindered (no_memory s e f) quiet_files quiet_sink enough files is = absurd (enough s)
+  answers_unhindered (replied reply p f (whole s e)) quiet_files quiet_sink enough files is =
+      given files reply is p (λ failure. quiet_files failure.rose) s e
+  answers_unhindered (replied reply p f (failed s rose front)) quiet_files quiet_sink enough files is = absurd (quiet_sink rose)
+  answers_unhindered (replied reply p f (unfinished s front)) quiet_files quiet_sink enough files is = absurd (enough s)
+
+  pub sink_fault_is_right : Called → SinkFaultIsRight before after status
+  sink_fault_is_right (no_memory s e f) five = absurd (omega arith)
+  sink_fault_is_right (replied reply p f (whole s e)) five = absurd (omega (arith, most reply p))
+  sink_fault_is_right (replied reply p f (failed s rose front)) five = rose
+  sink_fault_is_right (replied reply p f (unfinished s front)) five = absurd (omega arith)
 
   -- the usage
-  abbrev IsUsageReply : Reply → Type 0
-  IsUsageReply reply = AskNothing words × (reply ≡ says 2 usage_text)
-
-  not_asked : (reply : Reply) → AskNothing words → IsOutcome words told faults faults_now reply → reply ≡ says 2 usage_text
-  not_asked reply none (usage none' e) = e
-  not_asked reply none (carried_out (Analyse network) asks analysed) = absurd (none (Analyse network) asks)
-
-  two_is_usage_analysis : (network : List ℕ) (reply : Reply) → IsAnalysis network told faults faults_now reply → reply.status ≡ 2 → ⊥
-  two_is_usage_analysis network reply (loaded text there (text_longer over e)) two = let s : reply.status ≡ 3 = ap (λ (r : Reply). r.status) e in absurd (omega arith)
-  two_is_usage_analysis network reply (loaded text there (formless within none e)) two = let s : reply.status ≡ 3 = ap (λ (r : Reply). r.status) e in absurd (omega arith)
-  two_is_usage_analysis network reply (loaded text there (reported within tree narrow layout report)) two =
-      let s : reply.status ≡ status_of report.bad = ap (λ (r : Reply). r.status) report.told in absurd (omega (arith, report_status report.bad))
-  two_is_usage_analysis network reply (longer over e) two = let s : reply.status ≡ 3 = ap (λ (r : Reply). r.status) e in absurd (omega arith)
-  two_is_usage_analysis network reply (missing lacking e) two = let s : reply.status ≡ 4 = ap (λ (r : Reply). r.status) e in absurd (omega arith)
-  two_is_usage_analysis network reply (load_failed rose e) two = let s : reply.status ≡ 4 = ap (λ (r : Reply). r.status) e in absurd (omega arith)
-
-  two_is_usage : (reply : Reply) → IsOutcome words told faults faults_now reply → reply.status ≡ 2 → IsUsageReply reply
-  two_is_usage reply (usage none e) two = (none, e)
-  two_is_usage reply (carried_out (Analyse network) asks analysed) two = absurd (two_is_usage_analysis network reply analysed two)
+  usage_reply : (reply : Reply) → Replies reply → reply.status ≡ 2 → AskNothing words × (reply ≡ says 2 usage_text)
+  usage_reply reply p two = two_is_usage words before.files after.files reply (kind_of words before.files after.files reply p) two
 
   usage_only : Called → status ≡ 2 → AskNothing words
-  usage_only (no_memory s e) two = absurd (omega arith)
-  usage_only (replied reply outcome (whole s e)) two = (two_is_usage reply outcome (sym s ∙ two)).0
-  usage_only (replied reply outcome (failed s rose front)) two = absurd (omega arith)
-  usage_only (replied reply outcome (unfinished s front)) two = absurd (omega arith)
+  usage_only (no_memory s e f) two = absurd (omega arith)
+  usage_only (replied reply p f (whole s e)) two = (usage_reply reply p (sym s ∙ two)).0
+  usage_only (replied reply p f (failed s rose front)) two = absurd (omega arith)
+  usage_only (replied reply p f (unfinished s front)) two = absurd (omega arith)
 
-  usage_whole : Called → status ≡ 2 → now ≡ append_known written usage_text
-  usage_whole (no_memory s e) two = absurd (omega arith)
-  usage_whole (replied reply outcome (whole s e)) two =
-      e ∙ ap (λ (r : Reply). append_known written r.text) (two_is_usage reply outcome (sym s ∙ two)).1
-  usage_whole (replied reply outcome (failed s rose front)) two = absurd (omega arith)
-  usage_whole (replied reply outcome (unfinished s front)) two = absurd (omega arith)
+  usage_whole : Called → status ≡ 2 → after.sink.written ≡ append_known before.sink.written usage_text
+  usage_whole (no_memory s e f) two = absurd (omega arith)
+  usage_whole (replied reply p f (whole s e)) two = e ∙ ap (λ (r : Reply). append_known before.sink.written r.text) (usage_reply reply p (sym s ∙ two)).1
+  usage_whole (replied reply p f (failed s rose front)) two = absurd (omega arith)
+  usage_whole (replied reply p f (unfinished s front)) two = absurd (omega arith)
 
   -- a whole text is a front of itself, and nothing is a front of any text
-  all_of : (old new : Option (List ℕ)) (text : List ℕ) → new ≡ append_known old text → AppendsFront old new text
-  all_of old new text e = (text, ([], sym (append-nil text)), e)
+  all_of : (text : List ℕ) → after.sink.written ≡ append_known before.sink.written text → Fronts text
+  all_of text e = (text, ([], sym (append-nil text)), e)
 
   appended_nothing : (known : Option (List ℕ)) → known ≡ append_known known []
   appended_nothing None = refl
   appended_nothing (Some bytes) = ap Some (sym (append-nil bytes))
 
-  none_of : (text : List ℕ) → now ≡ written → AppendsFront written now text
-  none_of text e = ([], (text, refl), e ∙ appended_nothing written)
+  none_of : (text : List ℕ) → after.sink.written ≡ before.sink.written → Fronts text
+  none_of text e = ([], (text, refl), e ∙ appended_nothing before.sink.written)
 
-  usage_cut : Called → AskNothing words → AppendsFront written now usage_text
-  usage_cut (no_memory s e) none = none_of usage_text e
-  usage_cut (replied reply outcome (whole s e)) none = all_of written now usage_text (e ∙ ap (λ (r : Reply). append_known written r.text) (not_asked reply none outcome))
-  usage_cut (replied reply outcome (failed s rose front)) none = subst (λ (r : Reply). AppendsFront written now r.text) (not_asked reply none outcome) front
-  usage_cut (replied reply outcome (unfinished s front)) none = subst (λ (r : Reply). AppendsFront written now r.text) (not_asked reply none outcome) front
+  unasked_reply : (reply : Reply) → AskNothing words → Replies reply → reply ≡ says 2 usage_text
+  unasked_reply = not_asked words before.files after.files
+
+  usage_cut : Called → AskNothing words → Fronts usage_text
+  usage_cut (no_memory s e f) none = none_of usage_text e
+  usage_cut (replied reply p f (whole s e)) none = all_of usage_text (e ∙ ap (λ (r : Reply). append_known before.sink.written r.text) (unasked_reply reply none p))
+  usage_cut (replied reply p f (failed s rose front)) none = subst (λ (r : Reply). Fronts r.text) (unasked_reply reply none p) front
+  usage_cut (replied reply p f (unfinished s front)) none = subst (λ (r : Reply). Fronts r.text) (unasked_reply reply none p) front
 
   usage_statuses : Called → AskNothing words → (status ≡ 2) ⊎ ((status ≡ 5) ⊎ (status ≡ 6))
-  usage_statuses (no_memory s e) none = inr (inr s)
-  usage_statuses (replied reply outcome (whole s e)) none = inl (s ∙ ap (λ (r : Reply). r.status) (not_asked reply none outcome))
-  usage_statuses (replied reply outcome (failed s rose front)) none = inr (inl s)
-  usage_statuses (replied reply outcome (unfinished s front)) none = inr (inr s)
+  usage_statuses (no_memory s e f) none = inr (inr s)
+  usage_statuses (replied reply p f (whole s e)) none = inl (s ∙ ap (λ (r : Reply). r.status) (unasked_reply reply none p))
+  usage_statuses (replied reply p f (failed s rose front)) none = inr (inl s)
+  usage_statuses (replied reply p f (unfinished s front)) none = inr (inr s)
 
-  pub usage_is_right : Called → UsageIsRight words written now status
+  pub usage_is_right : Called → UsageIsRight words before after status
   usage_is_right called = record { only = usage_only called; text = usage_whole called; cut = usage_cut called; statuses = usage_statuses called }
 
   -- refusals
-  three_is_refusal : (network : List ℕ) (files : FileMap) (reply : Reply) → told ≡ Some files → Asks words (Analyse network) →
-      IsAnalysis network told faults faults_now reply → reply.status ≡ 3 → IsRefusable words files
-  three_is_refusal network files reply is asks (loaded text there (text_longer over e)) three =
-      record { network = network; asks = asks; text = text; loaded = there files is; fault = inl over }
-  three_is_refusal network files reply is asks (loaded text there (formless within none e)) three =
-      record { network = network; asks = asks; text = text; loaded = there files is; fault = inr none }
-  three_is_refusal network files reply is asks (loaded text there (reported within tree narrow layout report)) three =
-      let s : reply.status ≡ status_of report.bad = ap (λ (r : Reply). r.status) report.told in absurd (omega (arith, report_status report.bad))
-  three_is_refusal network files reply is asks (longer over e) three =
-      let file = over files is in record { network = network; asks = asks; text = file.0; loaded = file.1; fault = inl file.2 }
-  three_is_refusal network files reply is asks (missing lacking e) three = let s : reply.status ≡ 4 = ap (λ (r : Reply). r.status) e in absurd (omega arith)
-  three_is_refusal network files reply is asks (load_failed rose e) three = let s : reply.status ≡ 4 = ap (λ (r : Reply). r.status) e in absurd (omega arith)
+  refused_reply : (files : FileMap) (reply : Reply) → before.files.told ≡ Some files → Replies reply → reply.status ≡ 3 → IsRefused words files
+  refused_reply files reply is p three =
+      let refused = three_is_refusal words before.files after.files reply (kind_of words before.files after.files reply p) three in (
+        refused.0,
+        subst (IsAnswer words files) refused.1 (elim (reply_answers words before.files after.files files reply is p) [
+          | inl answer ↦ answer
+          | inr failure ↦ let four : reply.status ≡ 4 = fault_is_four reply failure in absurd (omega arith)
+        ]),
+      )
 
-  three_is_refused : (files : FileMap) (reply : Reply) → told ≡ Some files → IsOutcome words told faults faults_now reply → reply.status ≡ 3 → IsRefusable words files
-  three_is_refused files reply is (usage none e) three = let s : reply.status ≡ 2 = ap (λ (r : Reply). r.status) e in absurd (omega arith)
-  three_is_refused files reply is (carried_out (Analyse network) asks analysed) three = three_is_refusal network files reply is asks analysed three
+  refusal_only : Called → status ≡ 3 → WhereTold before.files (IsRefused words)
+  refusal_only (no_memory s e f) three files is = absurd (omega arith)
+  refusal_only (replied reply p f (whole s e)) three files is = refused_reply files reply is p (sym s ∙ three)
+  refusal_only (replied reply p f (failed s rose front)) three files is = absurd (omega arith)
+  refusal_only (replied reply p f (unfinished s front)) three files is = absurd (omega arith)
 
-  refusal_only : Called → status ≡ 3 → WhereTold told (IsRefusable words)
-  refusal_only (no_memory s e) three files is = absurd (omega arith)
-  refusal_only (replied reply outcome (whole s e)) three files is = three_is_refused files reply is outcome (sym s ∙ three)
-  refusal_only (replied reply outcome (failed s rose front)) three files is = absurd (omega arith)
-  refusal_only (replied reply outcome (unfinished s front)) three files is = absurd (omega arith)
+  module _ (one_answer : AnswerIsUnique) where
+    refusing_status : (files : FileMap) (reply : Reply) → before.files.told ≡ Some files → IsRefused words files → Replies reply → 3 ≤ reply.status
+    refusing_status files reply is (refusal, answer) p = elim (reply_answers words before.files after.files files reply is p) [
+      | inl other ↦ let s : reply.status ≡ 3 = ap (λ (r : Reply). r.status) (one_answer words files reply (refuses refusal) other answer) in omega arith
+      | inr failure ↦ let four : reply.status ≡ 4 = fault_is_four reply failure in omega arith
+    ]
 
-  -- the one file of the words
-  same_file : (files : FileMap) (network : List ℕ) (refusable : IsRefusable words files) → Asks words (Analyse network) → (file : Option (List ℕ)) → file_of files network ≡ file →
-      file ≡ Some refusable.text
-  same_file files network refusable asks file is =
-      sym is ∙ ap (file_of files) (network_is_asked words network refusable.network asks refusable.asks) ∙ refusable.loaded
+    refused_status : (files : FileMap) → before.files.told ≡ Some files → IsRefused words files → Called → 3 ≤ status
+    refused_status files is refused (no_memory s e f) = omega arith
+    refused_status files is refused (replied reply p f (whole s e)) = omega (arith, refusing_status files reply is refused p)
+    refused_status files is refused (replied reply p f (failed s rose front)) = omega arith
+    refused_status files is refused (replied reply p f (unfinished s front)) = omega arith
 
-  refused_text : (text : List ℕ) (reply : Reply) → ((text_limit < length text) ⊎ (HasNarrowForm text → ⊥)) → IsTextReply text reply → 3 ≤ reply.status
-  refused_text text reply why (text_longer over e) = let s : reply.status ≡ 3 = ap (λ (r : Reply). r.status) e in omega arith
-  refused_text text reply why (formless within none e) = let s : reply.status ≡ 3 = ap (λ (r : Reply). r.status) e in omega arith
-  refused_text text reply (inl over) (reported within tree narrow layout report) = absurd (omega arith)
-  refused_text text reply (inr none) (reported within tree narrow layout report) = absurd (none (tree, narrow, layout))
-
-  refused_analysis : (network : List ℕ) (files : FileMap) (reply : Reply) → told ≡ Some files → Asks words (Analyse network) → IsRefusable words files →
-      IsAnalysis network told faults faults_now reply → 3 ≤ reply.status
-  refused_analysis network files reply is asks refusable (loaded text there reply') =
-      let same : Some text ≡ Some refusable.text = same_file files network refusable asks (Some text) (there files is) in
-      let text_is : text ≡ refusable.text = cc in
-      refused_text text reply (subst (λ (t : List ℕ). (text_limit < length t) ⊎ (HasNarrowForm t → ⊥)) (sym text_is) refusable.fault) reply'
-  refused_analysis network files reply is asks refusable (longer over e) = let s : reply.status ≡ 3 = ap (λ (r : Reply). r.status) e in omega arith
-  refused_analysis network files reply is asks refusable (missing lacking e) = let s : reply.status ≡ 4 = ap (λ (r : Reply). r.status) e in omega arith
-  refused_analysis network files reply is asks refusable (load_failed rose e) = let s : reply.status ≡ 4 = ap (λ (r : Reply). r.status) e in omega arith
-
-  refused_outcome : (files : FileMap) (reply : Reply) → told ≡ Some files → IsRefusable words files → IsOutcome words told faults faults_now reply → 3 ≤ reply.status
-  refused_outcome files reply is refusable (usage none e) = absurd (none (Analyse refusable.network) refusable.asks)
-  refused_outcome files reply is refusable (carried_out (Analyse network) asks analysed) = refused_analysis network files reply is asks refusable analysed
-
-  refused_status : (files : FileMap) → told ≡ Some files → IsRefusable words files → Called → 3 ≤ status
-  refused_status files is refusable (no_memory s e) = omega arith
-  refused_status files is refusable (replied reply outcome (whole s e)) = omega (arith, refused_outcome files reply is refusable outcome)
-  refused_status files is refusable (replied reply outcome (failed s rose front)) = omega arith
-  refused_status files is refusable (replied reply outcome (unfinished s front)) = omega arith
-
-  pub refusal_is_right : Called → RefusalIsRight words told status
-  refusal_is_right called = record {
-    only = refusal_only called;
-    statuses = λ files is refusable. (refused_status files is refusable called, status_in_range called);
-  }
+    pub refusal_is_right : Called → RefusalIsRight words before status
+    refusal_is_right called = record {
+      only = refusal_only called;
+      statuses = λ files is refused. (refused_status files is refused called, status_in_range called);
+    }
 
   -- faults of the files
-  four_is_fault : (network : List ℕ) (reply : Reply) → now ≡ append_known written reply.text → IsAnalysis network told faults faults_now reply → reply.status ≡ 4 →
-      IsFileFault network told faults faults_now written now
-  four_is_fault network reply e (loaded text there reply') four = absurd (omega (arith, text_reply_status text reply reply'))
-  four_is_fault network reply e (longer over e') four = let s : reply.status ≡ 3 = ap (λ (r : Reply). r.status) e' in absurd (omega arith)
-  four_is_fault network reply e (missing lacking e') four = lacks lacking (e ∙ ap (λ (r : Reply). append_known written r.text) e')
-  four_is_fault network reply e (load_failed rose e') four = fails rose (e ∙ ap (λ (r : Reply). append_known written r.text) e')
+  four_is_fault : (reply : Reply) → after.sink.written ≡ append_known before.sink.written reply.text → Kind words before.files after.files reply → reply.status ≡ 4 → IsFileFault words before after
+  four_is_fault reply e (usage none e') four = let s : reply.status ≡ 2 = ap (λ (r : Reply). r.status) e' in absurd (omega arith)
+  four_is_fault reply e (good small) four = absurd (omega arith)
+  four_is_fault reply e (refusing refusal e') four = let s : reply.status ≡ 3 = ap (λ (r : Reply). r.status) e' in absurd (omega arith)
+  four_is_fault reply e (lacking name there lack e') four = lacks name there lack (e ∙ ap (λ (r : Reply). append_known before.sink.written r.text) e')
+  four_is_fault reply e (failing name there rose e') four = fails name there rose (e ∙ ap (λ (r : Reply). append_known before.sink.written r.text) e')
 
-  four_is_asked : (reply : Reply) → now ≡ append_known written reply.text → IsOutcome words told faults faults_now reply → reply.status ≡ 4 →
-      (network : List ℕ) × Asks words (Analyse network) × IsFileFault network told faults faults_now written now
-  four_is_asked reply e (usage none e') four = let s : reply.status ≡ 2 = ap (λ (r : Reply). r.status) e' in absurd (omega arith)
-  four_is_asked reply e (carried_out (Analyse network) asks analysed) four = (network, asks, four_is_fault network reply e analysed four)
+  fault_text : Called → status ≡ 4 → IsFileFault words before after
+  fault_text (no_memory s e f) four = absurd (omega arith)
+  fault_text (replied reply p f (whole s e)) four = four_is_fault reply e (kind_of words before.files after.files reply p) (sym s ∙ four)
+  fault_text (replied reply p f (failed s rose front)) four = absurd (omega arith)
+  fault_text (replied reply p f (unfinished s front)) four = absurd (omega arith)
 
-  fault_text : Called → status ≡ 4 → (network : List ℕ) × Asks words (Analyse network) × IsFileFault network told faults faults_now written now
-  fault_text (no_memory s e) four = absurd (omega arith)
-  fault_text (replied reply outcome (whole s e)) four = four_is_asked reply e outcome (sym s ∙ four)
-  fault_text (replied reply outcome (failed s rose front)) four = absurd (omega arith)
-  fault_text (replied reply outcome (unfinished s front)) four = absurd (omega arith)
+  fault_answer : Called → status ≡ 4 → (Rose before.files.faults after.files.faults → ⊥) → WhereTold before.files (λ files. GivesAnswer words files before after status)
+  fault_answer (no_memory s e f) four quiet files is = absurd (omega arith)
+  fault_answer (replied reply p f (whole s e)) four quiet files is = given files reply is p (λ failure. quiet failure.rose) s e
+  fault_answer (replied reply p f (failed s rose front)) four quiet files is = absurd (omega arith)
+  fault_answer (replied reply p f (unfinished s front)) four quiet files is = absurd (omega arith)
 
-  fault_answer : Called → status ≡ 4 → (Rose faults faults_now → ⊥) → WhereTold told (λ files. GivesAnswer words files written now status)
-  fault_answer (no_memory s e) four quiet files is = absurd (omega arith)
-  fault_answer (replied reply outcome (whole s e)) four quiet files is = given files reply is outcome (λ fault'. quiet fault'.rose) s e
-  fault_answer (replied reply outcome (failed s rose front)) four quiet files is = absurd (omega arith)
-  fault_answer (replied reply outcome (unfinished s front)) four quiet files is = absurd (omega arith)
-
-  pub file_fault_is_right : Called → FileFaultIsRight words told faults faults_now written now status
+  pub file_fault_is_right : Called → FileFaultIsRight words before after status
   file_fault_is_right called = record { text = fault_text called; answer = fault_answer called }
 
   -- replies that were cut short
-  cut_of : (files : FileMap) (reply : Reply) → told ≡ Some files → IsOutcome words told faults faults_now reply → AppendsFront written now reply.text →
-      IsCut words files faults faults_now written now
-  cut_of files reply is outcome front =
-      elim (outcome_answers words files told faults faults_now reply is outcome) [
+  cut_of : (files : FileMap) (reply : Reply) → before.files.told ≡ Some files → Replies reply → Fronts reply.text → IsCut words files before after
+  cut_of files reply is p front =
+      elim (reply_answers words before.files after.files files reply is p) [
         | inl answer ↦ part reply answer front
-        | inr fault' ↦ fault fault'.rose fault'.network fault'.asks (subst (λ (r : Reply). AppendsFront written now r.text) fault'.told front)
+        | inr failure ↦ fault failure.rose failure.name failure.loads (subst (λ (r : Reply). Fronts r.text) failure.told front)
       ]
 
-  pub cuts_are_fronts : Called → CutsAreFronts words told faults faults_now written now status
-  cuts_are_fronts (no_memory s e) large files is = nothing e
-  cuts_are_fronts (replied reply outcome (whole s e)) large files is = absurd (omega (arith, outcome_status words told faults faults_now reply outcome))
-  cuts_are_fronts (replied reply outcome (failed s rose front)) large files is = cut_of files reply is outcome front
-  cuts_are_fronts (replied reply outcome (unfinished s front)) large files is = cut_of files reply is outcome front
+  pub cuts_are_fronts : Called → CutsAreFronts words before after status
+  cuts_are_fronts (no_memory s e f) large files is = nothing e
+  cuts_are_fronts (replied reply p f (whole s e)) large files is = absurd (omega (arith, most reply p))
+  cuts_are_fronts (replied reply p f (failed s rose front)) large files is = cut_of files reply is p front
+  cuts_are_fronts (replied reply p f (unfinished s front)) large files is = cut_of files reply is p front

@@ -14,17 +14,22 @@ use Rattle.net_plan.specs.Follows.{IsLeast}
 use Rattle.net_plan.specs.World.{HasNoBadRun}
 use Rattle.net_plan.specs.RunLaws.{SafeNetworkRunsSafely}
 use Rattle.narrow_form.specs.NarrowForm.{IsNarrow}
-use Rattle.outside.specs.Files.{FileMap, file_of}
+use Rattle.outside.specs.Faults.{Rose}
+use Rattle.outside.specs.Files.{FileMap, file_of, LacksFile, IsLonger}
 use Rattle.outside.specs.Sink.{AppendsFront}
-use Rattle.plan_text.specs.Messages.{usage_text, too_long, first_form}
+use Rattle.plan_text.specs.Messages.{usage_text, missing_text, fault_load_text}
 use Rattle.plan_text.specs.Prints.{PrintsSafe}
 use Rattle.plan_text.specs.Laws.{SafeIsTold, MessagesAreNotSafe}
-use Rattle.amdl_app.specs.Reply.{Reply}
-use Rattle.amdl_app.specs.Command.{Analyse, Asks}
-use Rattle.amdl_app.specs.Report.{IsReport, IsTextReply, longer as text_longer, formless, reported, text_limit, status_of, HasNoBad, HasBad}
-use Rattle.amdl_app.specs.Outcome.{IsAnalysis, loaded, longer, missing, failed as load_failed, IsOutcome, usage, asked as carried_out, whole, failed, unfinished, IsCall, no_memory, replied}
+use Rattle.plan_text.specs.declared.refusal.NetworkRefusal.TheVariants.{TooLong, FirstForm}
+use Rattle.amdl_app.specs.Reply.{Reply, says, refuses}
+use Rattle.amdl_app.specs.Command.{Command, Analyse, Asks, text_limit}
+use Rattle.amdl_app.specs.Loaded.{Loaded, Found, Over, Lacking, Failed, MayCome}
+use Rattle.amdl_app.specs.Report.{IsReport, IsAnalysis, formless, reported, status_of, HasNoBad, HasBad}
+use Rattle.amdl_app.specs.Answer.{IsCommandReply, IsReply, unasked, asked}
+use Rattle.amdl_app.specs.Outcome.{whole, failed, unfinished, IsCall, no_memory, replied}
 use Rattle.amdl_app.specs.Promises.{SaysSafe, SafeOnly, SafeRuns, StatusIsRight, SafeIf}
-use Rattle.amdl_app.proofs.AnswerLemmas.{network_is_asked}
+use Rattle.amdl_app.specs.Seen.{FilesSeen, Seen, WhereTold}
+use Rattle.amdl_app.proofs.AnswerLemmas.{command_is_asked}
 use Rattle.amdl_app.proofs.Listing.{none_there}
 
 report_is_safe : (plan : Plan) (reply : Reply) (report : IsReport plan reply) → report.bad ≡ [] → HasNoBad plan
@@ -46,12 +51,32 @@ some_status : (bad : List Fact) → status_of bad ≡ 1 → (fact : Fact) × (ot
 some_status [] one = absurd (omega arith)
 some_status (fact ∷ facts) one = (fact, facts, refl)
 
--- the file of the words has the narrow form, and its network has no bad fact
-record IsFoundSafe (words : List (List ℕ)) (told : Option FileMap) : Type 0 where
-  network : List ℕ
-  asks : Asks words (Analyse network)
+-- the reply to `analyse`, by what loading its file came to
+data Analysing (before after : FilesSeen) (network : List ℕ) (reply : Reply) : Type 0 where
+  found : (text : List ℕ) → WhereTold before (λ files. file_of files network ≡ Some text) → IsAnalysis text reply → Analysing before after network reply
+  longer : WhereTold before (λ files. IsLonger (file_of files network) text_limit) → reply ≡ refuses TooLong → Analysing before after network reply
+  lacking : LacksFile before.told network before.faults after.faults → reply ≡ says 4 (missing_text network) → Analysing before after network reply
+  failing : Rose before.faults after.faults → reply ≡ says 4 (fault_load_text network) → Analysing before after network reply
+
+analysing_by : (before after : FilesSeen) (network : List ℕ) (reply : Reply) → IsCommandReply (MayCome before after) (Analyse network) reply → Analysing before after network reply
+analysing_by before after network reply ([], each, p) = absurd each
+analysing_by before after network reply ((loaded ∷ other ∷ others), each, p) = absurd each.1
+analysing_by before after network reply ((Found text ∷ []), each, p) = found text each.0.1 p
+analysing_by before after network reply ((Over ∷ []), each, p) = longer each.0 p
+analysing_by before after network reply ((Lacking ∷ []), each, p) = lacking each.0 p
+analysing_by before after network reply ((Failed ∷ []), each, p) = failing each.0 p
+
+analysing : (words : List (List ℕ)) (before after : FilesSeen) (network : List ℕ) (reply : Reply) → Asks words (Analyse network) →
+    IsReply (MayCome before after) words reply → Analysing before after network reply
+analysing words before after network reply asks (unasked none e) = absurd (none (Analyse network) asks)
+analysing words before after network reply asks (asked command asks' p) =
+    analysing_by before after network reply
+    (subst (λ (c : Command). IsCommandReply (MayCome before after) c reply) (command_is_asked words command (Analyse network) asks' asks) p)
+
+-- the file has the narrow form, and its network has no bad fact
+record IsFoundSafe (before : FilesSeen) (network : List ℕ) : Type 0 where
   text : List ℕ
-  there : (files : FileMap) → told ≡ Some files → file_of files network ≡ Some text
+  there : WhereTold before (λ files. file_of files network ≡ Some text)
   tree : Tree
   narrow : IsNarrow tree
   layout : layout_of_tree tree ≡ text
@@ -59,158 +84,146 @@ record IsFoundSafe (words : List (List ℕ)) (told : Option FileMap) : Type 0 wh
   facts : List Fact
   least : IsLeast (net tree) facts
 
-module _ (words : List (List ℕ)) (told : Option FileMap) (faults faults_now : ℕ) where
-  found : (network : List ℕ) (text : List ℕ) (reply : Reply) → Asks words (Analyse network) →
-      ((files : FileMap) → told ≡ Some files → file_of files network ≡ Some text) →
-      (tree : Tree) → IsNarrow tree → layout_of_tree tree ≡ text → (report : IsReport (net tree) reply) → report.bad ≡ [] → IsFoundSafe words told
-  found network text reply asks there tree narrow layout report none =
-      record { network = network; asks = asks; text = text; there = there; tree = tree; narrow = narrow; layout = layout; safe = report_is_safe (net tree) reply report none; facts = report.facts; least = report.least }
+module _ (before after : FilesSeen) (network : List ℕ) where
+  found_safe : (text : List ℕ) (reply : Reply) → WhereTold before (λ files. file_of files network ≡ Some text) →
+      (tree : Tree) → IsNarrow tree → layout_of_tree tree ≡ text → (report : IsReport (net tree) reply) → report.bad ≡ [] → IsFoundSafe before network
+  found_safe text reply there tree narrow layout report none =
+      record { text = text; there = there; tree = tree; narrow = narrow; layout = layout; safe = report_is_safe (net tree) reply report none; facts = report.facts; least = report.least }
 
-  zero_analysis : (network : List ℕ) (reply : Reply) → Asks words (Analyse network) → IsAnalysis network told faults faults_now reply → reply.status ≡ 0 → IsFoundSafe words told
-  zero_analysis network reply asks (loaded text there (text_longer over e)) zero' = let s : reply.status ≡ 3 = ap (λ (r : Reply). r.status) e in absurd (omega arith)
-  zero_analysis network reply asks (loaded text there (formless within none e)) zero' = let s : reply.status ≡ 3 = ap (λ (r : Reply). r.status) e in absurd (omega arith)
-  zero_analysis network reply asks (loaded text there (reported within tree narrow layout report)) zero' =
-      found network text reply asks there tree narrow layout report (no_status report.bad (sym (ap (λ (r : Reply). r.status) report.told) ∙ zero'))
-  zero_analysis network reply asks (longer over e) zero' = let s : reply.status ≡ 3 = ap (λ (r : Reply). r.status) e in absurd (omega arith)
-  zero_analysis network reply asks (missing lacking e) zero' = let s : reply.status ≡ 4 = ap (λ (r : Reply). r.status) e in absurd (omega arith)
-  zero_analysis network reply asks (load_failed rose e) zero' = let s : reply.status ≡ 4 = ap (λ (r : Reply). r.status) e in absurd (omega arith)
-
-  zero_outcome : (reply : Reply) → IsOutcome words told faults faults_now reply → reply.status ≡ 0 → IsFoundSafe words told
-  zero_outcome reply (usage none e) zero' = let s : reply.status ≡ 2 = ap (λ (r : Reply). r.status) e in absurd (omega arith)
-  zero_outcome reply (carried_out (Analyse network) asks analysed) zero' = zero_analysis network reply asks analysed zero'
+  zero_reply : (reply : Reply) → Analysing before after network reply → reply.status ≡ 0 → IsFoundSafe before network
+  zero_reply reply (found text there (formless none e)) zero' = let s : reply.status ≡ 3 = ap (λ (r : Reply). r.status) e in absurd (omega arith)
+  zero_reply reply (found text there (reported tree narrow layout report)) zero' =
+      found_safe text reply there tree narrow layout report (no_status report.bad (sym (ap (λ (r : Reply). r.status) report.told) ∙ zero'))
+  zero_reply reply (longer over e) zero' = let s : reply.status ≡ 3 = ap (λ (r : Reply). r.status) e in absurd (omega arith)
+  zero_reply reply (lacking lack e) zero' = let s : reply.status ≡ 4 = ap (λ (r : Reply). r.status) e in absurd (omega arith)
+  zero_reply reply (failing rose e) zero' = let s : reply.status ≡ 4 = ap (λ (r : Reply). r.status) e in absurd (omega arith)
 
   module _ (safe_is_told : SafeIsTold) (messages : MessagesAreNotSafe) where
-    front_analysis : (network : List ℕ) (reply : Reply) → Asks words (Analyse network) → IsAnalysis network told faults faults_now reply →
-        (front rest : List ℕ) → reply.text ≡ front ++ rest → PrintsSafe front → IsFoundSafe words told
-    front_analysis network reply asks (loaded text there (text_longer over e)) front rest cut prints =
-        absurd (messages.refused too_long front rest (sym (ap (λ (r : Reply). r.text) e) ∙ cut) prints)
-    front_analysis network reply asks (loaded text there (formless within none e)) front rest cut prints =
-        absurd (messages.refused first_form front rest (sym (ap (λ (r : Reply). r.text) e) ∙ cut) prints)
-    front_analysis network reply asks (loaded text there (reported within tree narrow layout report)) front rest cut prints =
-        found network text reply asks there tree narrow layout report
+    front_reply : (reply : Reply) → Analysing before after network reply → (front rest : List ℕ) → reply.text ≡ front ++ rest → PrintsSafe front → IsFoundSafe before network
+    front_reply reply (found text there (formless none e)) front rest cut prints =
+        absurd (messages.refused FirstForm front rest (sym (ap (λ (r : Reply). r.text) e) ∙ cut) prints)
+    front_reply reply (found text there (reported tree narrow layout report)) front rest cut prints =
+        found_safe text reply there tree narrow layout report
         (safe_is_told (net tree) report.facts report.bad front rest narrow.built.named (sym (ap (λ (r : Reply). r.text) report.told) ∙ cut) prints)
-    front_analysis network reply asks (longer over e) front rest cut prints =
-        absurd (messages.refused too_long front rest (sym (ap (λ (r : Reply). r.text) e) ∙ cut) prints)
-    front_analysis network reply asks (missing lacking e) front rest cut prints =
+    front_reply reply (longer over e) front rest cut prints =
+        absurd (messages.refused TooLong front rest (sym (ap (λ (r : Reply). r.text) e) ∙ cut) prints)
+    front_reply reply (lacking lack e) front rest cut prints =
         absurd (messages.missing network front rest (sym (ap (λ (r : Reply). r.text) e) ∙ cut) prints)
-    front_analysis network reply asks (load_failed rose e) front rest cut prints =
+    front_reply reply (failing rose e) front rest cut prints =
         absurd (messages.fault_load network front rest (sym (ap (λ (r : Reply). r.text) e) ∙ cut) prints)
 
-    front_outcome : (reply : Reply) → IsOutcome words told faults faults_now reply → (front rest : List ℕ) → reply.text ≡ front ++ rest → PrintsSafe front → IsFoundSafe words told
-    front_outcome reply (usage none e) front rest cut prints = absurd (messages.usage front rest (sym (ap (λ (r : Reply). r.text) e) ∙ cut) prints)
-    front_outcome reply (carried_out (Analyse network) asks analysed) front rest cut prints = front_analysis network reply asks analysed front rest cut prints
+module _ (words : List (List ℕ)) (before after : Seen) (status : ℕ) (safe_is_told : SafeIsTold) (messages : MessagesAreNotSafe) (one_layout : NarrowLayoutIsOneToOne) where
+  abbrev Called : Type 0
+  Called = IsCall words before after status
 
-    module _ (written now : Option (List ℕ)) (sink sink_now status : ℕ) where
-      abbrev Called : Type 0
-      Called = IsCall words told faults faults_now written now sink sink_now status
+  abbrev Replies : Reply → Type 0
+  Replies reply = IsReply (MayCome before.files after.files) words reply
 
-      appended_is_front : (old appended text : List ℕ) → written ≡ Some old → now ≡ Some (old ++ appended) → (front : AppendsFront written now text) → appended ≡ front.0
-      appended_is_front old appended text was is front =
-          let both : Some (old ++ appended) ≡ Some (old ++ front.0) = sym is ∙ front.2 ∙ ap (λ (known : Option (List ℕ)). append_known known front.0) was in
-          let same : old ++ appended ≡ old ++ front.0 = cc in
-          append_cancel_left old appended front.0 same
+  one_tree : (t u : Tree) → IsNarrow t → IsNarrow u → layout_of_tree t ≡ layout_of_tree u → t ≡ u
+  one_tree t u one two same = one_layout t u one two same
 
-      printed_front : (old appended : List ℕ) → written ≡ Some old → now ≡ Some (old ++ appended) → PrintsSafe appended →
-          (reply : Reply) → IsOutcome words told faults faults_now reply → AppendsFront written now reply.text → IsFoundSafe words told
-      printed_front old appended was is prints reply outcome front =
-          front_outcome reply outcome front.0 front.1.0 front.1.1 (subst PrintsSafe (appended_is_front old appended reply.text was is front) prints)
+  appended_is_front : (old appended text : List ℕ) → before.sink.written ≡ Some old → after.sink.written ≡ Some (old ++ appended) →
+      (front : AppendsFront before.sink.written after.sink.written text) → appended ≡ front.0
+  appended_is_front old appended text was is front =
+      let both : Some (old ++ appended) ≡ Some (old ++ front.0) = sym is ∙ front.2 ∙ ap (λ (known : Option (List ℕ)). append_known known front.0) was in
+      let same : old ++ appended ≡ old ++ front.0 = cc in
+      append_cancel_left old appended front.0 same
 
-      whole_is_front : (text : List ℕ) → now ≡ append_known written text → AppendsFront written now text
-      whole_is_front text e = (text, ([], sym (append-nil text)), e)
+  whole_is_front : (text : List ℕ) → after.sink.written ≡ append_known before.sink.written text → AppendsFront before.sink.written after.sink.written text
+  whole_is_front text e = (text, ([], sym (append-nil text)), e)
 
-      nothing_is_front : (known : Option (List ℕ)) → known ≡ append_known known []
-      nothing_is_front None = refl
-      nothing_is_front (Some bytes) = ap Some (sym (append-nil bytes))
+  nothing_is_front : (known : Option (List ℕ)) → known ≡ append_known known []
+  nothing_is_front None = refl
+  nothing_is_front (Some bytes) = ap Some (sym (append-nil bytes))
 
-      printed : (old appended : List ℕ) → written ≡ Some old → now ≡ Some (old ++ appended) → PrintsSafe appended → Called → IsFoundSafe words told
-      printed old appended was is prints (no_memory s e) =
-          let front : AppendsFront written now usage_text = ([], (usage_text, refl), e ∙ nothing_is_front written) in
-          absurd (messages.usage [] usage_text refl (subst PrintsSafe (appended_is_front old appended usage_text was is front) prints))
-      printed old appended was is prints (replied reply outcome (whole s e)) = printed_front old appended was is prints reply outcome (whole_is_front reply.text e)
-      printed old appended was is prints (replied reply outcome (failed s rose front)) = printed_front old appended was is prints reply outcome front
-      printed old appended was is prints (replied reply outcome (unfinished s front)) = printed_front old appended was is prints reply outcome front
+  module _ (network : List ℕ) (asks : Asks words (Analyse network)) where
+    reply_of_call : (reply : Reply) → Replies reply → Analysing before.files after.files network reply
+    reply_of_call reply p = analysing words before.files after.files network reply asks p
 
-      zero_called : status ≡ 0 → Called → IsFoundSafe words told
-      zero_called zero' (no_memory s e) = absurd (omega arith)
-      zero_called zero' (replied reply outcome (whole s e)) = zero_outcome reply outcome (sym s ∙ zero')
-      zero_called zero' (replied reply outcome (failed s rose front)) = absurd (omega arith)
-      zero_called zero' (replied reply outcome (unfinished s front)) = absurd (omega arith)
+    printed_front : (old appended : List ℕ) → before.sink.written ≡ Some old → after.sink.written ≡ Some (old ++ appended) → PrintsSafe appended →
+        (reply : Reply) → Replies reply → AppendsFront before.sink.written after.sink.written reply.text → IsFoundSafe before.files network
+    printed_front old appended was is prints reply p front =
+        front_reply before.files after.files network safe_is_told messages reply (reply_of_call reply p) front.0 front.1.0 front.1.1
+        (subst PrintsSafe (appended_is_front old appended reply.text was is front) prints)
 
-      said_safe : SaysSafe written now status → Called → IsFoundSafe words told
-      said_safe (inl zero') called = zero_called zero' called
-      said_safe (inr some) called = printed some.0 some.1 some.2 some.3 some.4 called
+    printed : (old appended : List ℕ) → before.sink.written ≡ Some old → after.sink.written ≡ Some (old ++ appended) → PrintsSafe appended → Called → IsFoundSafe before.files network
+    printed old appended was is prints (no_memory s e f) =
+        let front : AppendsFront before.sink.written after.sink.written usage_text = ([], (usage_text, refl), e ∙ nothing_is_front before.sink.written) in
+        absurd (messages.usage [] usage_text refl (subst PrintsSafe (appended_is_front old appended usage_text was is front) prints))
+    printed old appended was is prints (replied reply p f (whole s e)) = printed_front old appended was is prints reply p (whole_is_front reply.text e)
+    printed old appended was is prints (replied reply p f (failed s rose front)) = printed_front old appended was is prints reply p front
+    printed old appended was is prints (replied reply p f (unfinished s front)) = printed_front old appended was is prints reply p front
 
-      module _ (one_layout : NarrowLayoutIsOneToOne) where
-        one_tree : (t u : Tree) → IsNarrow t → IsNarrow u → layout_of_tree t ≡ layout_of_tree u → t ≡ u
-        one_tree t u one two same = one_layout t u one two same
+    zero_called : status ≡ 0 → Called → IsFoundSafe before.files network
+    zero_called zero' (no_memory s e f) = absurd (omega arith)
+    zero_called zero' (replied reply p f (whole s e)) = zero_reply before.files after.files network reply (reply_of_call reply p) (sym s ∙ zero')
+    zero_called zero' (replied reply p f (failed s rose front)) = absurd (omega arith)
+    zero_called zero' (replied reply p f (unfinished s front)) = absurd (omega arith)
 
-        pub safe_only : Called → SafeOnly words told written now status
-        safe_only called network asks says' files is =
-            let safe = said_safe says' called in (
-              safe.text,
-              ap (file_of files) (network_is_asked words network safe.network asks safe.asks) ∙ safe.there files is,
-              record {
-                form = (safe.tree, safe.narrow, safe.layout);
-                safe = λ tree narrow layout. subst (λ (t : Tree). HasNoBad (net t)) (one_tree safe.tree tree safe.narrow narrow (safe.layout ∙ sym layout)) safe.safe;
-              },
-            )
+    said_safe : SaysSafe before after status → Called → IsFoundSafe before.files network
+    said_safe (inl zero') called = zero_called zero' called
+    said_safe (inr some) called = printed some.0 some.1 some.2 some.3 some.4 called
 
-        pub safe_runs : SafeNetworkRunsSafely → Called → SafeRuns words told written now status
-        safe_runs runs called network asks says' files is text file tree narrow layout =
-            let safe = said_safe says' called in
-            let both : Some safe.text ≡ Some text = sym (ap (file_of files) (network_is_asked words network safe.network asks safe.asks) ∙ safe.there files is) ∙ file in
-            let same : safe.text ≡ text = cc in
-            subst (λ (t : Tree). HasNoBadRun (net t)) (one_tree safe.tree tree safe.narrow narrow (safe.layout ∙ same ∙ sym layout))
-            (runs (net safe.tree) safe.facts safe.least (λ fact there bad. safe.safe fact ((safe.least.member fact).0 there) bad))
+    -- the reply to the told text, of which a tree in the narrow form is known
+    module _ (tree : Tree) (text : List ℕ) (narrow : IsNarrow tree) (layout : layout_of_tree tree ≡ text) (within : length text ≤ text_limit) where
+      small : (bad : List Fact) → status_of bad ≡ 3 → ⊥
+      small [] three = absurd (omega arith)
+      small (fact ∷ facts) three = absurd (omega arith)
 
-        -- the reply to the told text, of which a tree in the narrow form is known
-        module _ (tree : Tree) (text : List ℕ) (narrow : IsNarrow tree) (layout : layout_of_tree tree ≡ text) (within : length text ≤ text_limit) where
-          text_is_right : (reply : Reply) → IsTextReply text reply → StatusIsRight tree reply.status
-          text_is_right reply (text_longer over e) = absurd (omega arith)
-          text_is_right reply (formless within' none e) = absurd (none (tree, narrow, layout))
-          text_is_right reply (reported within' tree' narrow' layout' report) =
-              let same : tree' ≡ tree = one_tree tree' tree narrow' narrow (layout' ∙ sym layout) in
-              let is : reply.status ≡ status_of report.bad = ap (λ (r : Reply). r.status) report.told in
-              subst (λ (t : Tree). StatusIsRight t reply.status) same (record {
-                accepted = λ three. small report.bad (sym is ∙ three);
-                safe = λ zero'. report_is_safe (net tree') reply report (no_status report.bad (sym is ∙ zero'));
-                alarm = λ one. let some = some_status report.bad (sym is ∙ one) in alarm_is_bad (net tree') reply report some.0 some.1 some.2;
-              })
-            where
-              small : (bad : List Fact) → status_of bad ≡ 3 → ⊥
-              small [] three = absurd (omega arith)
-              small (fact ∷ facts) three = absurd (omega arith)
+      text_is_right : (reply : Reply) → IsAnalysis text reply → StatusIsRight tree reply.status
+      text_is_right reply (formless none e) = absurd (none (tree, narrow, layout))
+      text_is_right reply (reported tree' narrow' layout' report) =
+          let same : tree' ≡ tree = one_tree tree' tree narrow' narrow (layout' ∙ sym layout) in
+          let is : reply.status ≡ status_of report.bad = ap (λ (r : Reply). r.status) report.told in
+          subst (λ (t : Tree). StatusIsRight t reply.status) same (record {
+            accepted = λ three. small report.bad (sym is ∙ three);
+            safe = λ zero'. report_is_safe (net tree') reply report (no_status report.bad (sym is ∙ zero'));
+            alarm = λ one. let some = some_status report.bad (sym is ∙ one) in alarm_is_bad (net tree') reply report some.0 some.1 some.2;
+          })
 
-          beyond : (n : ℕ) → 4 ≤ n → StatusIsRight tree n
-          beyond n large = record { accepted = λ three. absurd (omega arith); safe = λ zero'. absurd (omega arith); alarm = λ one. absurd (omega arith) }
+      beyond : (n : ℕ) → 4 ≤ n → StatusIsRight tree n
+      beyond n large = record { accepted = λ three. absurd (omega arith); safe = λ zero'. absurd (omega arith); alarm = λ one. absurd (omega arith) }
 
-          analysis_is_right : (files : FileMap) (network : List ℕ) (reply : Reply) → told ≡ Some files → file_of files network ≡ Some text →
-              IsAnalysis network told faults faults_now reply → StatusIsRight tree reply.status
-          analysis_is_right files network reply is file (loaded text' there reply') =
-              let both : Some text' ≡ Some text = sym (there files is) ∙ file in
-              let same : text' ≡ text = cc in
-              text_is_right reply (subst (λ (t : List ℕ). IsTextReply t reply) same reply')
-          analysis_is_right files network reply is file (longer over e) =
-              let large = over files is in
-              let both : Some large.0 ≡ Some text = sym large.1 ∙ file in
-              let same : large.0 ≡ text = cc in
-              let less : text_limit < length text = subst (λ (t : List ℕ). text_limit < length t) same large.2 in
-              absurd (omega arith)
-          analysis_is_right files network reply is file (missing lacking e) = beyond reply.status (let s : reply.status ≡ 4 = ap (λ (r : Reply). r.status) e in omega arith)
-          analysis_is_right files network reply is file (load_failed rose e) = beyond reply.status (let s : reply.status ≡ 4 = ap (λ (r : Reply). r.status) e in omega arith)
+      reply_is_right : (files : FileMap) (reply : Reply) → before.files.told ≡ Some files → file_of files network ≡ Some text →
+          Analysing before.files after.files network reply → StatusIsRight tree reply.status
+      reply_is_right files reply is file (found text' there p) =
+          let both : Some text' ≡ Some text = sym (there files is) ∙ file in
+          let same : text' ≡ text = cc in
+          text_is_right reply (subst (λ (t : List ℕ). IsAnalysis t reply) same p)
+      reply_is_right files reply is file (longer over e) =
+          let large = over files is in
+          let both : Some large.0 ≡ Some text = sym large.1 ∙ file in
+          let same : large.0 ≡ text = cc in
+          let less : text_limit < length text = subst (λ (t : List ℕ). text_limit < length t) same large.2 in
+          absurd (omega arith)
+      reply_is_right files reply is file (lacking lack e) = beyond reply.status (let s : reply.status ≡ 4 = ap (λ (r : Reply). r.status) e in omega arith)
+      reply_is_right files reply is file (failing rose e) = beyond reply.status (let s : reply.status ≡ 4 = ap (λ (r : Reply). r.status) e in omega arith)
 
-          outcome_is_right : (files : FileMap) (network : List ℕ) (reply : Reply) → told ≡ Some files → Asks words (Analyse network) → file_of files network ≡ Some text →
-              IsOutcome words told faults faults_now reply → StatusIsRight tree reply.status
-          outcome_is_right files network reply is asks file (usage none e) = absurd (none (Analyse network) asks)
-          outcome_is_right files network reply is asks file (carried_out (Analyse network') asks' analysed) =
-              analysis_is_right files network' reply is (ap (file_of files) (network_is_asked words network' network asks' asks) ∙ file) analysed
+      call_is_right : (files : FileMap) → before.files.told ≡ Some files → file_of files network ≡ Some text → Called → StatusIsRight tree status
+      call_is_right files is file (no_memory s e f) = beyond status (omega arith)
+      call_is_right files is file (replied reply p f (whole s e)) =
+          subst (StatusIsRight tree) (sym s) (reply_is_right files reply is file (reply_of_call reply p))
+      call_is_right files is file (replied reply p f (failed s rose front)) = beyond status (omega arith)
+      call_is_right files is file (replied reply p f (unfinished s front)) = beyond status (omega arith)
 
-          call_is_right : (files : FileMap) (network : List ℕ) → told ≡ Some files → Asks words (Analyse network) → file_of files network ≡ Some text → Called → StatusIsRight tree status
-          call_is_right files network is asks file (no_memory s e) = beyond status (omega arith)
-          call_is_right files network is asks file (replied reply outcome (whole s e)) =
-              subst (StatusIsRight tree) (sym s) (outcome_is_right files network reply is asks file outcome)
-          call_is_right files network is asks file (replied reply outcome (failed s rose front)) = beyond status (omega arith)
-          call_is_right files network is asks file (replied reply outcome (unfinished s front)) = beyond status (omega arith)
+  pub safe_only : Called → SafeOnly words before after status
+  safe_only called network asks says' files is =
+      let safe = said_safe network asks says' called in (
+        safe.text,
+        safe.there files is,
+        record {
+          form = (safe.tree, safe.narrow, safe.layout);
+          safe = λ tree narrow layout. subst (λ (t : Tree). HasNoBad (net t)) (one_tree safe.tree tree safe.narrow narrow (safe.layout ∙ sym layout)) safe.safe;
+        },
+      )
 
-        pub safe_if : Called → SafeIf words told status
-        safe_if called network asks files is text file within tree narrow layout = call_is_right tree text narrow layout within files network is asks file called
+  pub safe_runs : SafeNetworkRunsSafely → Called → SafeRuns words before after status
+  safe_runs runs called network asks says' files is text file tree narrow layout =
+      let safe = said_safe network asks says' called in
+      let both : Some safe.text ≡ Some text = sym (safe.there files is) ∙ file in
+      let same : safe.text ≡ text = cc in
+      subst (λ (t : Tree). HasNoBadRun (net t)) (one_tree safe.tree tree safe.narrow narrow (safe.layout ∙ same ∙ sym layout))
+      (runs (net safe.tree) safe.facts safe.least (λ fact there bad. safe.safe fact ((safe.least.member fact).0 there) bad))
+
+  pub safe_if : Called → SafeIf words before status
+  safe_if called network asks files is text file within tree narrow layout = call_is_right network asks tree text narrow layout within files is file called

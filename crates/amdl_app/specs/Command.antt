@@ -1,15 +1,52 @@
--- What the words of a call ask for.
-use Rattle.std.specs.Prelude.{◌≡◌, ℕ, List, [], ◌∷◌, codes}
+-- What the words of a call ask for, and which files that takes.
+use Rattle.std.specs.Prelude.{◌≡◌, ℕ, List, [], ◌∷◌, Option, None, Contains, codes}
 
 -- the rows of the table of words, one case a verb
 pub data Command : Type 0 where
   -- analyse the network of a file
   Analyse : List ℕ → Command
+  -- print the network of a file in its canonical layout
+  Format : List ℕ → Command
 
 -- the words ask for the command
 abbrev pub Asks : List (List ℕ) → Command → Type 0
 Asks words (Analyse network) = words ≡ codes "analyse" ∷ network ∷ []
+Asks words (Format network) = words ≡ codes "format" ∷ network ∷ []
 
 -- the words are no row of the table
 abbrev pub AskNothing : List (List ℕ) → Type 0
 AskNothing words = (command : Command) → Asks words command → ⊥
+
+-- a file that is loaded: its name, and the most bytes that it may have
+pub record Input : Type 0 where
+  pub name : List ℕ
+  pub limit : ℕ
+
+-- the text of a network
+abbrev pub text_limit : ℕ
+text_limit = 4194304
+
+abbrev pub network_input : List ℕ → Input
+network_input name = record { name = name; limit = text_limit }
+
+-- the files that a command loads, in their order
+abbrev pub inputs_of : Command → List Input
+inputs_of (Analyse network) = network_input network ∷ []
+inputs_of (Format network) = network_input network ∷ []
+
+-- the name of the file that it stores
+abbrev pub output_of : Command → Option (List ℕ)
+output_of (Analyse network) = None
+output_of (Format network) = None
+
+-- the words ask for a command that loads a file of this name
+pub record LoadsFile (words : List (List ℕ)) (name : List ℕ) : Type 0 where
+  pub command : Command
+  pub asks : Asks words command
+  pub input : Input
+  pub loads : Contains (inputs_of command) input
+  pub named : input.name ≡ name
+
+-- they ask for no command that loads or stores a file
+abbrev pub UseNoFile : List (List ℕ) → Type 0
+UseNoFile words = (command : Command) → Asks words command → (inputs_of command ≡ []) × (output_of command ≡ None)

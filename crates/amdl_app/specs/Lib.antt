@@ -3,7 +3,11 @@ pub mod Answer
 pub mod Answered
 pub mod Asked
 pub mod Command
+pub mod Formatting
+pub mod Laws
+pub mod Loaded
 pub mod Outcome
 pub mod Promises
 pub mod Reply
 pub mod Report
+pub mod Seen

@@ -1,6 +1,5 @@
--- What a call of the program promises, over the words, the told files, the two counts of faults and the told bytes of the
--- sink before the call and after it, and the status.
-use Rattle.std.specs.Prelude.{◌≡◌, ◌≢◌, ℕ, ◌≤◌, ◌<◌, ◌⊎◌, List, ◌++◌, length, map, Option, Some}
+-- What a call of the program promises, over the words, what is seen of files and output before and after it, and the status.
+use Rattle.std.specs.Prelude.{◌≡◌, ◌≢◌, ℕ, ◌≤◌, ◌⊎◌, List, ◌++◌, length, map, Some}
 use Rattle.std.specs.String.{string_bytes}
 use Rattle.std.specs.declared.string.String.{String}
 use Rattle.std.specs.declared.alloc.Global.{Global}
@@ -15,83 +14,103 @@ use Rattle.outside.specs.Files.{FileMap, file_of, LacksFile}
 use Rattle.outside.specs.Sink.{AppendsFront}
 use Rattle.plan_text.specs.Messages.{usage_text, missing_text, fault_load_text}
 use Rattle.plan_text.specs.Prints.{PrintsSafe}
-use Rattle.amdl_app.specs.Reply.{Reply}
-use Rattle.amdl_app.specs.Command.{Analyse, Asks, AskNothing}
-use Rattle.amdl_app.specs.Report.{HasNarrowForm, HasNoBad, HasBad, text_limit}
+use Rattle.plan_text.specs.declared.refusal.NetworkRefusal.{NetworkRefusal}
+use Rattle.amdl_app.specs.Reply.{Reply, refuses}
+use Rattle.amdl_app.specs.Command.{Analyse, Asks, AskNothing, LoadsFile, UseNoFile, text_limit}
+use Rattle.amdl_app.specs.Report.{HasNarrowForm, HasNoBad, HasBad}
 use Rattle.amdl_app.specs.Answer.{IsAnswer}
+use Rattle.amdl_app.specs.Seen.{Seen, WhereTold}
 
 -- the words as lists of bytes
 abbrev pub spelled : List (String Global) → List (List ℕ)
 spelled words = map string_bytes words
 
--- where the files are told, this holds of them
-abbrev pub WhereTold : Option FileMap → (FileMap → Type 0) → Type 0
-WhereTold told holds = (files : FileMap) → told ≡ Some files → holds files
+-- the whole text was appended to the output
+abbrev pub Appends : Seen → Seen → List ℕ → Type 0
+Appends before after text = after.sink.written ≡ append_known before.sink.written text
+
+-- a front of it was appended
+abbrev pub AppendsFrontOf : Seen → Seen → List ℕ → Type 0
+AppendsFrontOf before after text = AppendsFront before.sink.written after.sink.written text
+
+-- the count of faults of the files rose in the call, and that of the output
+abbrev pub FilesFailed : Seen → Seen → Type 0
+FilesFailed before after = Rose before.files.faults after.files.faults
+
+abbrev pub SinkFailed : Seen → Seen → Type 0
+SinkFailed before after = Rose before.sink.faults after.sink.faults
 
 -- there is an answer, and the status and the appended bytes are its own
-pub record GivesAnswer (words : List (List ℕ)) (files : FileMap) (written now : Option (List ℕ)) (status : ℕ) : Type 0 where
+pub record GivesAnswer (words : List (List ℕ)) (files : FileMap) (before after : Seen) (status : ℕ) : Type 0 where
   pub reply : Reply
   pub answer : IsAnswer words files reply
   pub status_is : status ≡ reply.status
-  pub text_is : now ≡ append_known written reply.text
+  pub text_is : Appends before after reply.text
 
 -- a status of 0 to 3 is the answer's, and so are the bytes
-abbrev pub AnswersUpToThree : List (List ℕ) → Option FileMap → Option (List ℕ) → Option (List ℕ) → ℕ → Type 0
-AnswersUpToThree words told written now status = status ≤ 3 → WhereTold told (λ files. GivesAnswer words files written now status)
+abbrev pub AnswersUpToThree : List (List ℕ) → Seen → Seen → ℕ → Type 0
+AnswersUpToThree words before after status =
+    status ≤ 3 → WhereTold before.files (λ files. GivesAnswer words files before after status)
 
 -- where no count rose and memory sufficed, status and bytes are the answer's
-abbrev pub AnswersUnhindered : List (List ℕ) → Option FileMap → ℕ → ℕ → ℕ → ℕ → Option (List ℕ) → Option (List ℕ) → ℕ → Type 0
-AnswersUnhindered words told faults faults_now sink sink_now written now status =
-    (Rose faults faults_now → ⊥) → (Rose sink sink_now → ⊥) → status ≢ 6 →
-    WhereTold told (λ files. GivesAnswer words files written now status)
+abbrev pub AnswersUnhindered : List (List ℕ) → Seen → Seen → ℕ → Type 0
+AnswersUnhindered words before after status =
+    ¬ FilesFailed before after → ¬ SinkFailed before after → status ≢ 6 →
+    WhereTold before.files (λ files. GivesAnswer words files before after status)
+
+-- words that use no file leave the count of the files' faults as it was
+abbrev pub UnusedIsQuiet : List (List ℕ) → Seen → Seen → Type 0
+UnusedIsQuiet words before after = UseNoFile words → after.files.faults ≡ before.files.faults
 
 -- status 2 comes only where the words are no row of the table, and the usage is all that is appended
-pub record UsageIsRight (words : List (List ℕ)) (written now : Option (List ℕ)) (status : ℕ) : Type 0 where
+pub record UsageIsRight (words : List (List ℕ)) (before after : Seen) (status : ℕ) : Type 0 where
   pub only : status ≡ 2 → AskNothing words
-  pub text : status ≡ 2 → now ≡ append_known written usage_text
+  pub text : status ≡ 2 → Appends before after usage_text
   -- where they are no row, a front of the usage is appended at each status, and the status is 2, 5 or 6
-  pub cut : AskNothing words → AppendsFront written now usage_text
+  pub cut : AskNothing words → AppendsFrontOf before after usage_text
   pub statuses : AskNothing words → (status ≡ 2) ⊎ ((status ≡ 5) ⊎ (status ≡ 6))
 
--- the words load a text that is over the limit or hasn't the narrow form
-pub record IsRefusable (words : List (List ℕ)) (files : FileMap) : Type 0 where
-  pub network : List ℕ
-  pub asks : Asks words (Analyse network)
-  pub text : List ℕ
-  pub loaded : file_of files network ≡ Some text
-  pub fault : (text_limit < length text) ⊎ (HasNarrowForm text → ⊥)
+-- the answer refuses a text that the words load
+abbrev pub IsRefused : List (List ℕ) → FileMap → Type 0
+IsRefused words files = (refusal : NetworkRefusal) × IsAnswer words files (refuses refusal)
 
 -- status 3 comes only there, and there the status is 3, 4, 5 or 6
-pub record RefusalIsRight (words : List (List ℕ)) (told : Option FileMap) (status : ℕ) : Type 0 where
-  pub only : status ≡ 3 → WhereTold told (IsRefusable words)
-  pub statuses : WhereTold told (λ files. IsRefusable words files → (3 ≤ status) × (status ≤ 6))
+pub record RefusalIsRight (words : List (List ℕ)) (before : Seen) (status : ℕ) : Type 0 where
+  pub only : status ≡ 3 → WhereTold before.files (IsRefused words)
+  pub statuses : WhereTold before.files (λ files. IsRefused words files → (3 ≤ status) × (status ≤ 6))
 
--- the file of a command is missing, or loading it failed, and that is all that is appended
-pub data IsFileFault (network : List ℕ) (told : Option FileMap) (faults faults_now : ℕ) (written now : Option (List ℕ)) : Type 0 where
-  lacks : LacksFile told network faults faults_now → now ≡ append_known written (missing_text network) → IsFileFault network told faults faults_now written now
-  fails : Rose faults faults_now → now ≡ append_known written (fault_load_text network) → IsFileFault network told faults faults_now written now
+-- a file that the words load is missing, or loading it failed, and that is all that is appended
+pub data IsFileFault (words : List (List ℕ)) (before after : Seen) : Type 0 where
+  lacks : (name : List ℕ) → LoadsFile words name → LacksFile before.files.told name before.files.faults after.files.faults →
+      Appends before after (missing_text name) → IsFileFault words before after
+  fails : (name : List ℕ) → LoadsFile words name → FilesFailed before after →
+      Appends before after (fault_load_text name) → IsFileFault words before after
 
-pub record FileFaultIsRight (words : List (List ℕ)) (told : Option FileMap) (faults faults_now : ℕ) (written now : Option (List ℕ)) (status : ℕ) : Type 0 where
+pub record FileFaultIsRight (words : List (List ℕ)) (before after : Seen) (status : ℕ) : Type 0 where
   -- one whole text is appended
-  pub text : status ≡ 4 → (network : List ℕ) × Asks words (Analyse network) × IsFileFault network told faults faults_now written now
+  pub text : status ≡ 4 → IsFileFault words before after
   -- without a fault of the files it is the answer's
-  pub answer : status ≡ 4 → (Rose faults faults_now → ⊥) → WhereTold told (λ files. GivesAnswer words files written now status)
+  pub answer : status ≡ 4 → ¬ FilesFailed before after → WhereTold before.files (λ files. GivesAnswer words files before after status)
+
+-- status 5 comes only where the count of the output's faults rose
+abbrev pub SinkFaultIsRight : Seen → Seen → ℕ → Type 0
+SinkFaultIsRight before after status = status ≡ 5 → SinkFailed before after
 
 -- what a reply that was cut short has appended: nothing, a front of the answer's text, or where the files failed a front of
 -- the text that says so
-pub data IsCut (words : List (List ℕ)) (files : FileMap) (faults faults_now : ℕ) (written now : Option (List ℕ)) : Type 0 where
-  nothing : now ≡ written → IsCut words files faults faults_now written now
-  part : (reply : Reply) → IsAnswer words files reply → AppendsFront written now reply.text → IsCut words files faults faults_now written now
-  fault : Rose faults faults_now → (network : List ℕ) → Asks words (Analyse network) → AppendsFront written now (fault_load_text network) → IsCut words files faults faults_now written now
+pub data IsCut (words : List (List ℕ)) (files : FileMap) (before after : Seen) : Type 0 where
+  nothing : after.sink.written ≡ before.sink.written → IsCut words files before after
+  part : (reply : Reply) → IsAnswer words files reply → AppendsFrontOf before after reply.text → IsCut words files before after
+  fault : FilesFailed before after → (name : List ℕ) → LoadsFile words name → AppendsFrontOf before after (fault_load_text name) → IsCut words files before after
 
-abbrev pub CutsAreFronts : List (List ℕ) → Option FileMap → ℕ → ℕ → Option (List ℕ) → Option (List ℕ) → ℕ → Type 0
-CutsAreFronts words told faults faults_now written now status =
-    5 ≤ status → WhereTold told (λ files. IsCut words files faults faults_now written now)
+abbrev pub CutsAreFronts : List (List ℕ) → Seen → Seen → ℕ → Type 0
+CutsAreFronts words before after status = 5 ≤ status → WhereTold before.files (λ files. IsCut words files before after)
 
 -- the call says SAFE: by its status, or by a front of three lines in what it appended
-abbrev pub SaysSafe : Option (List ℕ) → Option (List ℕ) → ℕ → Type 0
-SaysSafe written now status =
-    (status ≡ 0) ⊎ ((old : List ℕ) × (appended : List ℕ) × (written ≡ Some old) × (now ≡ Some (old ++ appended)) × PrintsSafe appended)
+abbrev pub SaysSafe : Seen → Seen → ℕ → Type 0
+SaysSafe before after status =
+    (status ≡ 0)
+    ⊎ ((old : List ℕ) × (appended : List ℕ) × (before.sink.written ≡ Some old) × (after.sink.written ≡ Some (old ++ appended)) × PrintsSafe appended)
 
 -- the text has the narrow form, and no derivation of a network that it spells ends in a bad fact
 pub record IsSafeText (text : List ℕ) : Type 0 where
@@ -99,15 +118,15 @@ pub record IsSafeText (text : List ℕ) : Type 0 where
   pub safe : (tree : Tree) → IsNarrow tree → layout_of_tree tree ≡ text → HasNoBad (net tree)
 
 -- SAFE is said only of files whose network has no derivable bad fact
-abbrev pub SafeOnly : List (List ℕ) → Option FileMap → Option (List ℕ) → Option (List ℕ) → ℕ → Type 0
-SafeOnly words told written now status =
-    (network : List ℕ) → Asks words (Analyse network) → SaysSafe written now status →
-    WhereTold told (λ files. (text : List ℕ) × (file_of files network ≡ Some text) × IsSafeText text)
+abbrev pub SafeOnly : List (List ℕ) → Seen → Seen → ℕ → Type 0
+SafeOnly words before after status =
+    (network : List ℕ) → Asks words (Analyse network) → SaysSafe before after status →
+    WhereTold before.files (λ files. (text : List ℕ) × (file_of files network ≡ Some text) × IsSafeText text)
 
 -- where SAFE is said, no run of a network that the file spells, of any length and in either mode, has a bad event
-abbrev pub SafeRuns : List (List ℕ) → Option FileMap → Option (List ℕ) → Option (List ℕ) → ℕ → Type 0
-SafeRuns words told written now status =
-    (network : List ℕ) → Asks words (Analyse network) → SaysSafe written now status → WhereTold told (λ files.
+abbrev pub SafeRuns : List (List ℕ) → Seen → Seen → ℕ → Type 0
+SafeRuns words before after status =
+    (network : List ℕ) → Asks words (Analyse network) → SaysSafe before after status → WhereTold before.files (λ files.
     (text : List ℕ) → file_of files network ≡ Some text →
     (tree : Tree) → IsNarrow tree → layout_of_tree tree ≡ text → HasNoBadRun (net tree))
 
@@ -119,8 +138,8 @@ pub record StatusIsRight (tree : Tree) (status : ℕ) : Type 0 where
 
 -- a file within the limit that has the narrow form isn't refused, is SAFE only where no derivation ends in a bad fact, and
 -- is an ALARM only where one does
-abbrev pub SafeIf : List (List ℕ) → Option FileMap → ℕ → Type 0
-SafeIf words told status =
-    (network : List ℕ) → Asks words (Analyse network) → WhereTold told (λ files.
+abbrev pub SafeIf : List (List ℕ) → Seen → ℕ → Type 0
+SafeIf words before status =
+    (network : List ℕ) → Asks words (Analyse network) → WhereTold before.files (λ files.
     (text : List ℕ) → file_of files network ≡ Some text → length text ≤ text_limit →
     (tree : Tree) → IsNarrow tree → layout_of_tree tree ≡ text → StatusIsRight tree status)

@@ -1,5 +1,7 @@
 -- What a call of the program answers: a status, a text, and perhaps one file that it stores.
 use Rattle.std.specs.Prelude.{ℕ, List, Option, None}
+use Rattle.plan_text.specs.Messages.{refused_network}
+use Rattle.plan_text.specs.declared.refusal.NetworkRefusal.{NetworkRefusal}
 
 pub record Reply : Type 0 where
   pub status : ℕ
@@ -10,3 +12,7 @@ pub record Reply : Type 0 where
 -- a reply that stores nothing
 abbrev pub says : ℕ → List ℕ → Reply
 says status text = record { status = status; text = text; stored = None }
+
+-- a reply that refuses the text of a network
+abbrev pub refuses : NetworkRefusal → Reply
+refuses refusal = says 3 (refused_network refusal)

@@ -1,5 +1,5 @@
--- The report of a network, and the reply to a text of a network.
-use Rattle.std.specs.Prelude.{◌≡◌, ℕ, ◌<◌, ◌≤◌, List, [], ◌∷◌, length}
+-- The report of a network, and the reply of `analyse` to a text.
+use Rattle.std.specs.Prelude.{◌≡◌, ℕ, List, [], ◌∷◌}
 use Rattle.amdl_tree.specs.Layout.{layout_of_tree}
 use Rattle.amdl_tree.specs.Derivation.{IsDerivable}
 use Rattle.amdl_tree.specs.declared.tree.Tree.{Tree}
@@ -10,9 +10,9 @@ use Rattle.net_plan.specs.Follows.{Follows, IsLeast, IsBad}
 use Rattle.net_plan.specs.Net.{net}
 use Rattle.narrow_form.specs.NarrowForm.{IsNarrow}
 use Rattle.plan_text.specs.Text.{report_of}
-use Rattle.plan_text.specs.Messages.{refused_network, too_long, first_form}
+use Rattle.plan_text.specs.declared.refusal.NetworkRefusal.TheVariants.{FirstForm}
 use Rattle.amdl_app.specs.Analysis.{IsBadAmong}
-use Rattle.amdl_app.specs.Reply.{Reply, says}
+use Rattle.amdl_app.specs.Reply.{Reply, says, refuses}
 
 -- SAFE is status 0, and ALARM is status 1
 abbrev pub status_of : List Fact → ℕ
@@ -35,19 +35,13 @@ HasNoBad plan = (fact : Fact) → IsDerivable (Follows plan) fact → IsBad plan
 abbrev pub HasBad : Plan → Type 0
 HasBad plan = (fact : Fact) × IsDerivable (Follows plan) fact × IsBad plan fact
 
--- the longest text of a network, in bytes
-abbrev pub text_limit : ℕ
-text_limit = 4194304
-
 -- the text has the narrow form
 abbrev pub HasNarrowForm : List ℕ → Type 0
 HasNarrowForm text = (tree : Tree) × IsNarrow tree × (layout_of_tree tree ≡ text)
 
--- the reply to the text of a network, in three cases of which one holds
-pub data IsTextReply (text : List ℕ) (reply : Reply) : Type 0 where
-  -- the text is too long
-  longer : text_limit < length text → reply ≡ says 3 (refused_network too_long) → IsTextReply text reply
+-- the reply to the text of a network within the limit
+pub data IsAnalysis (text : List ℕ) (reply : Reply) : Type 0 where
   -- it hasn't the narrow form
-  formless : length text ≤ text_limit → (HasNarrowForm text → ⊥) → reply ≡ says 3 (refused_network first_form) → IsTextReply text reply
+  formless : (HasNarrowForm text → ⊥) → reply ≡ refuses FirstForm → IsAnalysis text reply
   -- the report of its network
-  reported : length text ≤ text_limit → (tree : Tree) → IsNarrow tree → layout_of_tree tree ≡ text → IsReport (net tree) reply → IsTextReply text reply
+  reported : (tree : Tree) → IsNarrow tree → layout_of_tree tree ≡ text → IsReport (net tree) reply → IsAnalysis text reply

@@ -1,46 +1,43 @@
 //! The verb `analyse`.
-ghost use Rattle.std.specs.Prelude.{◌≡◌, ℕ, ◌≤◌, length, OnOk, IfOk, All};
+ghost use Rattle.std.specs.Prelude.{◌≡◌, ◌≤◌, IfOk};
+ghost use Rattle.amdl_app.specs.Answer.{IsCommandReply};
 ghost use Rattle.amdl_app.specs.Answered.{reply_of};
-ghost use Rattle.amdl_app.specs.Report.{IsReport, IsTextReply, status_of};
-ghost use Rattle.amdl_app.specs.Outcome.{IsAnalysis};
+ghost use Rattle.amdl_app.specs.Command.{Analyse};
+ghost use Rattle.amdl_app.specs.Loaded.{MayCome};
+ghost use Rattle.amdl_app.specs.Report.{IsAnalysis, IsReport, status_of};
+ghost use Rattle.amdl_app.specs.Seen.{files_seen};
 
-use crate::answer::{Answer, load_fault_answer, missing_answer, refusal};
+use crate::answer::{Answer, refusal_answer};
 use crate::facts::{bad_facts, derivable_facts};
+use crate::load::{Loaded, load_network, stop_answer};
 use amdl_tree::NoMemory;
 use narrow_form::read_narrow;
 use net_plan::{Fact, Network};
-use outside::{Files, LoadFault};
-use plan_text::put_report;
+use outside::Files;
+use plan_text::{NetworkRefusal, put_report};
 use std::alloc::Global;
-
-/// The most bytes of a network text.
-const TEXT_LIMIT: usize = 4_194_304;
 
 /// Loads the file of a network and analyses it.
 pub fn analyse<F: Files>(alloc: Global, network: &str, files: &mut F) -> Result<Answer, NoMemory>
     ensures kept { F.told files.new ≡ F.told files.old }
     ensures later { F.faults files.old ≤ F.faults files.new }
-    ensures analysis { IfOk result (λ answer.
-        IsAnalysis network.now (F.told files.old) (F.faults files.old) (F.faults files.new) (reply_of answer)) }
+    ensures reply { IfOk result (λ answer. IsCommandReply
+        (MayCome (files_seen F.told F.faults files.old) (files_seen F.told F.faults files.new)) (Analyse network.now) (reply_of answer)) }
 {
-    let mut text = Vec::new(alloc);
-    match files.load(alloc, network, TEXT_LIMIT, &mut text) {
-        Ok(()) => analyse_text(alloc, text.as_slice()),
-        Err(LoadFault::TooLong) => refusal(alloc, b"TooLong"),
-        Err(LoadFault::Missing) => missing_answer(alloc, network),
-        Err(LoadFault::Failed) => load_fault_answer(alloc, network),
-        Err(LoadFault::NoMemory) => Err(NoMemory),
+    let loaded = load_network(alloc, network, files)?;
+    match loaded {
+        Loaded::Found(text) => analyse_text(alloc, text.as_slice()),
+        Loaded::Stopped(stop) => stop_answer(alloc, network, stop),
     }
 }
 
-// Analyses the network that a text within the limit spells.
+// Analyses the network that a text spells.
 fn analyse_text(alloc: Global, text: &[u8]) -> Result<Answer, NoMemory>
-    requires { length text.now ≤ 4194304 }
-    ensures { IfOk result (λ answer. IsTextReply text.now (reply_of answer)) }
+    ensures { IfOk result (λ answer. IsAnalysis text.now (reply_of answer)) }
 {
     match read_narrow(alloc, text)? {
         Some(network) => report(alloc, &network),
-        None => refusal(alloc, b"FirstForm"),
+        None => refusal_answer(alloc, NetworkRefusal::FirstForm),
     }
 }
 

@@ -1,11 +1,11 @@
 //! The answer of a call before it is put out.
 ghost use Rattle.std.specs.Prelude.{◌≡◌, ◌∷◌, [], ℕ, ◌≤◌, OnOk, IfOk, IfNone, length, All};
-ghost use Rattle.amdl_app.specs.Reply.{says};
-ghost use Rattle.plan_text.specs.Messages.{usage_text, missing_text, fault_load_text, refused_network};
+ghost use Rattle.amdl_app.specs.Reply.{says, refuses};
+ghost use Rattle.plan_text.specs.Messages.{usage_text, missing_text, fault_load_text};
 ghost use Rattle.amdl_app.specs.Answered.{reply_of};
 
 use amdl_tree::NoMemory;
-use plan_text::{put_fault_load, put_missing, put_refused, usage};
+use plan_text::{NetworkRefusal, put_fault_load, put_missing, put_refused, usage};
 use std::alloc::Global;
 
 /// A status and a text.
@@ -24,12 +24,12 @@ pub fn usage_answer(alloc: Global) -> Result<Answer, NoMemory>
     Ok(Answer { status: 2, text })
 }
 
-/// A refusal of the network text with its reason, status 3.
-pub fn refusal(alloc: Global, reason: &[u8]) -> Result<Answer, NoMemory>
-    ensures { IfOk result (λ answer. reply_of answer ≡ says 3 (refused_network reason.now)) }
+/// A refusal of the network text, status 3.
+pub fn refusal_answer(alloc: Global, refusal: NetworkRefusal) -> Result<Answer, NoMemory>
+    ensures { IfOk result (λ answer. reply_of answer ≡ refuses refusal) }
 {
     let mut text = Vec::new(alloc);
-    put_refused(reason, &mut text)?;
+    put_refused(refusal, &mut text)?;
     Ok(Answer { status: 3, text })
 }
 

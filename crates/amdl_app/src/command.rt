@@ -1,6 +1,6 @@
 //! The words of a call.
-ghost use Rattle.std.specs.Prelude.{◌≡◌, MatchOption};
-ghost use Rattle.amdl_app.specs.Command.{Asks, AskNothing, Analyse};
+ghost use Rattle.std.specs.Prelude.{◌≡◌, ◌∷◌, [], MatchOption};
+ghost use Rattle.amdl_app.specs.Command.{Asks, AskNothing};
 ghost use Rattle.amdl_app.specs.Promises.{spelled};
 ghost use Rattle.amdl_app.specs.Asked.{asked_for};
 
@@ -9,6 +9,8 @@ ghost use Rattle.amdl_app.specs.Asked.{asked_for};
 pub enum Command<'a> {
     /// Analyse the network of this file.
     Analyse(&'a str),
+    /// Write the network of this file in its canonical layout.
+    Format(&'a str),
 }
 
 /// What the words ask for. None comes exactly where they are no row of the table.
@@ -16,7 +18,20 @@ pub fn command_of(words: &[String]) -> Option<Command<'_>>
     ensures { MatchOption result (AskNothing (spelled words.now)) (λ command. Asks (spelled words.now) (asked_for command)) }
 {
     match words {
-        [verb, network] if verb.as_str() == "analyse" => Some(Command::Analyse(network.as_str())),
+        [verb, network] => command_on(verb.as_str(), network.as_str()),
         _ => None,
     }
+}
+
+// What a verb with one word behind it asks for.
+fn command_on<'a>(verb: &str, network: &'a str) -> Option<Command<'a>>
+    ensures { MatchOption result (AskNothing (verb.now ∷ network.now ∷ [])) (λ command. Asks (verb.now ∷ network.now ∷ []) (asked_for command)) }
+{
+    if verb == "analyse" {
+        return Some(Command::Analyse(network));
+    }
+    if verb == "format" {
+        return Some(Command::Format(network));
+    }
+    None
 }

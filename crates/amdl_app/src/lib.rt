@@ -5,7 +5,9 @@ mod analyse;
 mod answer;
 mod command;
 mod facts;
+mod formatting;
 pub mod laws;
+mod load;
 mod output;
 mod program;
 

@@ -1,14 +1,19 @@
 //! The one call.
-ghost use Rattle.std.specs.Prelude.{◌≡◌, ℕ, ◌≤◌, OnOk, IfOk};
-ghost use Rattle.amdl_app.specs.Promises.{spelled, AnswersUpToThree, AnswersUnhindered, UsageIsRight, RefusalIsRight, FileFaultIsRight, CutsAreFronts, SafeOnly, SafeRuns, SafeIf};
+ghost use Rattle.std.specs.Prelude.{◌≡◌, [], ℕ, ◌≤◌, IfOk};
+ghost use Rattle.amdl_app.specs.Answer.{IsCommandReply, IsReply};
 ghost use Rattle.amdl_app.specs.Answered.{reply_of};
-ghost use Rattle.amdl_app.specs.Outcome.{IsCommandOutcome, IsOutcome, IsPutOut, IsCall};
 ghost use Rattle.amdl_app.specs.Asked.{asked_for};
-ghost use Rattle.outside.specs.Faults.{Rose};
+ghost use Rattle.amdl_app.specs.Command.{inputs_of, UseNoFile};
+ghost use Rattle.amdl_app.specs.Loaded.{MayCome};
+ghost use Rattle.amdl_app.specs.Outcome.{IsCall, IsPutOut};
+ghost use Rattle.amdl_app.specs.Promises.{spelled, AnswersUpToThree, AnswersUnhindered, UnusedIsQuiet, UsageIsRight, RefusalIsRight, FileFaultIsRight, SinkFaultIsRight, CutsAreFronts, SafeOnly, SafeRuns, SafeIf};
+ghost use Rattle.amdl_app.specs.Seen.{both_seen, files_seen, sink_seen};
 
 use crate::analyse::analyse;
 use crate::answer::{Answer, usage_answer};
 use crate::command::{Command, command_of};
+use crate::formatting::format;
+use crate::laws::answer_is_unique;
 use crate::output::put_text;
 use amdl_tree::NoMemory;
 use narrow_form::narrow_layout_is_one_to_one;
@@ -19,9 +24,10 @@ use std::alloc::Global;
 
 /// Does all that the program does for the words after its name, and answers its exit status.
 ///
-/// Status 0 is SAFE and 1 is ALARM; 2: the words are no row of the table; 3: the network text is refused; 4: its file is
-/// missing or loading it failed; 5: putting the text out failed; 6: want of memory. With the statuses 0 to 4 the whole text
-/// was appended to the sink, with 5 and 6 a front of it. It takes time linear in the text of the network and in its packets.
+/// Status 0: SAFE, or done; 1: ALARM; 2: the words are no row of the table; 3: a text that was loaded is refused; 4: a file
+/// is missing or loading it failed; 5: putting the text out failed; 6: want of memory. With the statuses 0 to 4 the whole
+/// text was appended to the sink, with 5 and 6 a front of it. It takes time linear in the text of the network, and for
+/// `analyse` in its packets.
 pub fn run<F: Files, S: Sink>(alloc: Global, words: &[String], files: &mut F, out: &mut S) -> u8
     ensures status { result ≤ 6 }
 
@@ -29,26 +35,50 @@ pub fn run<F: Files, S: Sink>(alloc: Global, words: &[String], files: &mut F, ou
     ensures files_kept { F.told files.new ≡ F.told files.old }
     ensures files_later { F.faults files.old ≤ F.faults files.new }
     ensures sink_later { S.faults out.old ≤ S.faults out.new }
+    ensures quiet { UnusedIsQuiet (spelled words.now)
+        (both_seen (files_seen F.told F.faults files.old) (sink_seen S.written S.faults out.old))
+        (both_seen (files_seen F.told F.faults files.new) (sink_seen S.written S.faults out.new)) }
 
-    // The answer.
-    ensures answers { AnswersUpToThree (spelled words.now) (F.told files.old) (S.written out.old) (S.written out.new) result }
-    ensures unhindered { AnswersUnhindered (spelled words.now) (F.told files.old) (F.faults files.old) (F.faults files.new)
-        (S.faults out.old) (S.faults out.new) (S.written out.old) (S.written out.new) result }
+    // What the call came to, also where files and sink tell nothing: one reply, and how it was put out.
+    ensures call { IsCall (spelled words.now)
+        (both_seen (files_seen F.told F.faults files.old) (sink_seen S.written S.faults out.old))
+        (both_seen (files_seen F.told F.faults files.new) (sink_seen S.written S.faults out.new)) result }
+
+    // Where the files are told, the answer.
+    ensures answers { AnswersUpToThree (spelled words.now)
+        (both_seen (files_seen F.told F.faults files.old) (sink_seen S.written S.faults out.old))
+        (both_seen (files_seen F.told F.faults files.new) (sink_seen S.written S.faults out.new)) result }
+    ensures unhindered { AnswersUnhindered (spelled words.now)
+        (both_seen (files_seen F.told F.faults files.old) (sink_seen S.written S.faults out.old))
+        (both_seen (files_seen F.told F.faults files.new) (sink_seen S.written S.faults out.new)) result }
 
     // The cause of each other status.
-    ensures usage { UsageIsRight (spelled words.now) (S.written out.old) (S.written out.new) result }
-    ensures refusal { RefusalIsRight (spelled words.now) (F.told files.old) result }
-    ensures file_fault { FileFaultIsRight (spelled words.now) (F.told files.old) (F.faults files.old) (F.faults files.new)
-        (S.written out.old) (S.written out.new) result }
-    ensures sink_fault { result ≡ 5 → Rose (S.faults out.old) (S.faults out.new) }
-    ensures cut { CutsAreFronts (spelled words.now) (F.told files.old) (F.faults files.old) (F.faults files.new)
-        (S.written out.old) (S.written out.new) result }
+    ensures usage { UsageIsRight (spelled words.now)
+        (both_seen (files_seen F.told F.faults files.old) (sink_seen S.written S.faults out.old))
+        (both_seen (files_seen F.told F.faults files.new) (sink_seen S.written S.faults out.new)) result }
+    ensures refusal { RefusalIsRight (spelled words.now)
+        (both_seen (files_seen F.told F.faults files.old) (sink_seen S.written S.faults out.old)) result }
+    ensures file_fault { FileFaultIsRight (spelled words.now)
+        (both_seen (files_seen F.told F.faults files.old) (sink_seen S.written S.faults out.old))
+        (both_seen (files_seen F.told F.faults files.new) (sink_seen S.written S.faults out.new)) result }
+    ensures sink_fault { SinkFaultIsRight
+        (both_seen (files_seen F.told F.faults files.old) (sink_seen S.written S.faults out.old))
+        (both_seen (files_seen F.told F.faults files.new) (sink_seen S.written S.faults out.new)) result }
+    ensures cut { CutsAreFronts (spelled words.now)
+        (both_seen (files_seen F.told F.faults files.old) (sink_seen S.written S.faults out.old))
+        (both_seen (files_seen F.told F.faults files.new) (sink_seen S.written S.faults out.new)) result }
 
     // What SAFE and ALARM say.
-    ensures safe_only { SafeOnly (spelled words.now) (F.told files.old) (S.written out.old) (S.written out.new) result }
-    ensures safe_runs { SafeRuns (spelled words.now) (F.told files.old) (S.written out.old) (S.written out.new) result }
-    ensures safe_if { SafeIf (spelled words.now) (F.told files.old) result }
+    ensures safe_only { SafeOnly (spelled words.now)
+        (both_seen (files_seen F.told F.faults files.old) (sink_seen S.written S.faults out.old))
+        (both_seen (files_seen F.told F.faults files.new) (sink_seen S.written S.faults out.new)) result }
+    ensures safe_runs { SafeRuns (spelled words.now)
+        (both_seen (files_seen F.told F.faults files.old) (sink_seen S.written S.faults out.old))
+        (both_seen (files_seen F.told F.faults files.new) (sink_seen S.written S.faults out.new)) result }
+    ensures safe_if { SafeIf (spelled words.now)
+        (both_seen (files_seen F.told F.faults files.old) (sink_seen S.written S.faults out.old)) result }
 {
+    answer_is_unique();
     narrow_layout_is_one_to_one();
     safe_is_told();
     messages_are_not_safe();
@@ -61,8 +91,10 @@ fn perform<F: Files, S: Sink>(alloc: Global, words: &[String], files: &mut F, ou
     ensures files_kept { F.told files.new ≡ F.told files.old }
     ensures files_later { F.faults files.old ≤ F.faults files.new }
     ensures sink_later { S.faults out.old ≤ S.faults out.new }
-    ensures call { IsCall (spelled words.now) (F.told files.old) (F.faults files.old) (F.faults files.new)
-        (S.written out.old) (S.written out.new) (S.faults out.old) (S.faults out.new) result }
+    ensures quiet { UseNoFile (spelled words.now) → F.faults files.new ≡ F.faults files.old }
+    ensures call { IsCall (spelled words.now)
+        (both_seen (files_seen F.told F.faults files.old) (sink_seen S.written S.faults out.old))
+        (both_seen (files_seen F.told F.faults files.new) (sink_seen S.written S.faults out.new)) result }
 {
     match answer_to(alloc, words, files) {
         Ok(answer) => put_answer(alloc, &answer, out),
@@ -74,8 +106,9 @@ fn perform<F: Files, S: Sink>(alloc: Global, words: &[String], files: &mut F, ou
 fn answer_to<F: Files>(alloc: Global, words: &[String], files: &mut F) -> Result<Answer, NoMemory>
     ensures kept { F.told files.new ≡ F.told files.old }
     ensures later { F.faults files.old ≤ F.faults files.new }
-    ensures outcome { IfOk result (λ answer.
-        IsOutcome (spelled words.now) (F.told files.old) (F.faults files.old) (F.faults files.new) (reply_of answer)) }
+    ensures quiet { UseNoFile (spelled words.now) → F.faults files.new ≡ F.faults files.old }
+    ensures reply { IfOk result (λ answer. IsReply
+        (MayCome (files_seen F.told F.faults files.old) (files_seen F.told F.faults files.new)) (spelled words.now) (reply_of answer)) }
 {
     match command_of(words) {
         Some(command) => reply_to(alloc, command, files),
@@ -91,18 +124,20 @@ fn reply_to<F: Files>(
 ) -> Result<Answer, NoMemory>
     ensures kept { F.told files.new ≡ F.told files.old }
     ensures later { F.faults files.old ≤ F.faults files.new }
-    ensures reply { IfOk result (λ answer.
-        IsCommandOutcome (asked_for command.entry) (F.told files.old) (F.faults files.old) (F.faults files.new) (reply_of answer)) }
+    ensures quiet { inputs_of (asked_for command.entry) ≡ [] → F.faults files.new ≡ F.faults files.old }
+    ensures reply { IfOk result (λ answer. IsCommandReply
+        (MayCome (files_seen F.told F.faults files.old) (files_seen F.told F.faults files.new)) (asked_for command.entry) (reply_of answer)) }
 {
     match command {
         Command::Analyse(network) => analyse(alloc, network, files),
+        Command::Format(network) => format(alloc, network, files),
     }
 }
 
 // Puts an answer out, and answers its status where that succeeds.
 fn put_answer<S: Sink>(alloc: Global, answer: &Answer, out: &mut S) -> u8
     ensures later { S.faults out.old ≤ S.faults out.new }
-    ensures put_out { IsPutOut (reply_of answer.now) (S.written out.old) (S.written out.new) (S.faults out.old) (S.faults out.new) result }
+    ensures put_out { IsPutOut (reply_of answer.now) (sink_seen S.written S.faults out.old) (sink_seen S.written S.faults out.new) result }
 {
     match put_text(alloc, answer.text.as_slice(), out) {
         Ok(()) => answer.status,

@@ -1,16 +1,30 @@
-use Rattle.std.proofs.Common.{◌≡◌, ◌++◌, ◌∙◌, ap, subst, List, ℕ}
+use Rattle.std.proofs.Common.{◌≡◌, ◌∷◌, [], List, ℕ, subst, ◌∙◌}
+use Rattle.amdl_app.specs.Answer.{AfterNetwork, IsCommandReply}
 use Rattle.amdl_app.specs.Answered.{reply_of}
-use Rattle.amdl_app.specs.Report.{IsTextReply}
-use Rattle.amdl_app.specs.Outcome.{IsAnalysis, loaded}
+use Rattle.amdl_app.specs.Asked.{came_to, stopped_by}
+use Rattle.amdl_app.specs.Command.{Analyse, network_input}
+use Rattle.amdl_app.specs.Report.{IsAnalysis}
+use Rattle.amdl_app.specs.Loaded.{Found, MayCome}
+use Rattle.amdl_app.specs.Reply.{Reply}
+use Rattle.amdl_app.specs.Seen.{files_seen}
 use Rattle.amdl_app.proofs.Words.{ok_map}
+use Rattle.amdl_app.proofs.LoadLemmas.{after_stop}
 use Rattle.amdl_app.proofs.analyse.analyse.Goals as goal
 
-pub returns-in-Ok-clause-analysis : goal.returns-in-Ok-clause-analysis
-returns-in-Ok-clause-analysis g c =
-    let all = c.in-Ok.ensures.loaded in
-    let text : c.as_slice.result.now ≡ all.added =
-    c.as_slice.ensures.value ∙ all.appended ∙ ap (λ (before : List ℕ). before ++ all.added) c.new-text.ensures.items in
+pub returns-in-Found-clause-reply : goal.returns-in-Found-clause-reply
+returns-in-Found-clause-reply g c =
+    let may = MayCome (files_seen g.F.Files.told g.F.Files.faults c.args.files.now) (files_seen g.F.Files.told g.F.Files.faults c.load_network.new.files) in
+    let came = subst (λ loaded. may (network_input c.args.network.now) (came_to loaded)) c.in-Found.is c.in_ok-loaded.ensures.came in
     ok_map c.analyse_text.result
-    (λ answer. IsTextReply c.as_slice.result.now (reply_of answer))
-    (λ answer. IsAnalysis c.args.network.now (g.F.Files.told c.args.files.now) (g.F.Files.faults c.args.files.now) (g.F.Files.faults c.load.new.self) (reply_of answer))
-    (λ answer reply. loaded all.added all.whole (subst (λ (t : List ℕ). IsTextReply t (reply_of answer)) text reply)) c.analyse_text.ensures
+    (λ answer. IsAnalysis c.as_slice.result.now (reply_of answer))
+    (λ answer. IsCommandReply may (Analyse c.args.network.now) (reply_of answer))
+    (λ answer reply. (Found c.in-Found.text.items ∷ [], (came, tt), subst (λ (t : List ℕ). IsAnalysis t (reply_of answer)) c.as_slice.ensures.value reply)) c.analyse_text.ensures
+
+pub returns-in-Stopped-clause-reply : goal.returns-in-Stopped-clause-reply
+returns-in-Stopped-clause-reply g c =
+    let may = MayCome (files_seen g.F.Files.told g.F.Files.faults c.args.files.now) (files_seen g.F.Files.told g.F.Files.faults c.load_network.new.files) in
+    let came = subst (λ loaded. may (network_input c.args.network.now) (came_to loaded)) c.in-Stopped.is c.in_ok-loaded.ensures.came in
+    ok_map c.stop_answer.result
+    (λ answer. AfterNetwork c.args.network.now (λ text others reply. ⊥) (stopped_by c.in-Stopped.stop ∷ []) (reply_of answer))
+    (λ answer. IsCommandReply may (Analyse c.args.network.now) (reply_of answer))
+    (λ answer reply. (stopped_by c.in-Stopped.stop ∷ [], (came, tt), after_stop c.args.network.now (λ text others. IsAnalysis text) (stopped_by c.in-Stopped.stop ∷ []) (reply_of answer) reply)) c.stop_answer.ensures

@@ -4,7 +4,7 @@ use Rattle.amdl_tree.specs.declared.tree.Tree.{Tree}
 use Rattle.net_plan.specs.declared.plan.Plan.{Plan}
 use Rattle.narrow_form.specs.NarrowForm.{IsNarrow, IsNetworkOf}
 use Rattle.amdl_app.specs.Answered.{reply_of}
-use Rattle.amdl_app.specs.Report.{IsReport, IsTextReply, reported}
+use Rattle.amdl_app.specs.Report.{IsReport, IsAnalysis, reported}
 use Rattle.amdl_app.proofs.Words.{ok_map}
 use Rattle.amdl_app.proofs.analyse.analyse_text.Goals as goal
 
@@ -13,5 +13,5 @@ returns-in-Some c =
     let read : IsNetworkOf c.args.text.now c.in-Some.network =
     subst (λ (found : Option Plan). MatchOption found ((tree : Tree) → IsNarrow tree → layout_of_tree tree ≢ c.args.text.now) (IsNetworkOf c.args.text.now))
     c.in-Some.is c.in_ok-network.ensures in
-    ok_map c.report.result (λ answer. IsReport c.in-Some.network (reply_of answer)) (λ answer. IsTextReply c.args.text.now (reply_of answer))
-    (λ answer report. reported c.requires read.0 read.1 read.2 (subst (λ (plan : Plan). IsReport plan (reply_of answer)) read.3 report)) c.report.ensures
+    ok_map c.report.result (λ answer. IsReport c.in-Some.network (reply_of answer)) (λ answer. IsAnalysis c.args.text.now (reply_of answer))
+    (λ answer report. reported read.0 read.1 read.2 (subst (λ (plan : Plan). IsReport plan (reply_of answer)) read.3 report)) c.report.ensures
