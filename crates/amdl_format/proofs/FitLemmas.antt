@@ -1,5 +1,5 @@
 -- What the depth of a statement leaves to its blocks.
-use Rattle.std.proofs.Common.{◌≡◌, ◌<◌, ◌-◌, ℕ, zero, suc, List, sym, subst, arith}
+use Rattle.std.proofs.Common.{◌≡◌, ◌<◌, ◌-◌, ℕ, zero, suc, List, subst, arith}
 use Rattle.std.specs.List.{All}
 use Rattle.amdl_tree.specs.WellBuilt.{OneOrMore, GuardFits, StmtLayer, AlternativeLayer, AlternativeFits, StmtFits}
 use Rattle.amdl_tree.specs.declared.statement.Alternative.{Alternative}

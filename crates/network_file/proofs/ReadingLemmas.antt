@@ -1,11 +1,9 @@
 -- Texts that are read, by their tokens.
-use Rattle.std.proofs.Common.{◌≡◌, ◌≢◌, ◌≤◌, ℕ, List, length, map, Result, Ok, Err, refl, sym, ap, subst, ◌∙◌}
+use Rattle.std.proofs.Common.{◌≡◌, ◌≢◌, ◌≤◌, ℕ, List, length, Result, Ok, Err, refl, sym, ap, subst, ◌∙◌}
 use Rattle.std.proofs.lemmas.List.{length-map}
-use Rattle.amdl_tree.specs.Layout.{layout_of_tree}
 use Rattle.amdl_tree.specs.Lexical.{StandsFor, token_of}
 use Rattle.amdl_tree.specs.Laws.{LayoutIsFile}
 use Rattle.amdl_tree.specs.Spelling.{spell}
-use Rattle.amdl_tree.specs.WellBuilt.{IsShaped}
 use Rattle.amdl_tree.specs.declared.token.Lexed.{Lexed}
 use Rattle.amdl_tree.specs.declared.token.Token.{Token}
 use Rattle.amdl_tree.specs.declared.tree.Tree.{Tree}

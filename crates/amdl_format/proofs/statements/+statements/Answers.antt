@@ -1,4 +1,4 @@
-use Rattle.std.proofs.Common.{rules, ◌≡◌, ◌-◌, ◌≤◌, List, ◌++◌, codes, sym, ap, subst, ◌∙◌, arith}
+use Rattle.std.proofs.Common.{rules, ◌-◌, ◌≤◌, List, ◌++◌, codes, sym, ap, subst, ◌∙◌, arith}
 use Rattle.std.specs.List.{All, flat_map}
 use Rattle.amdl_tree.specs.Layout.{indented, layout_of_guard, lines_of_statement}
 use Rattle.amdl_tree.specs.WellBuilt.{AlternativeFits, StmtFits}

@@ -1,7 +1,7 @@
 use Rattle.std.proofs.Common.{◌≡◌, ℕ, List, [], ◌++◌, codes, append_assoc, append-nil}
 use Rattle.amdl_tree.specs.Layout.{layout_of_changes}
 use Rattle.amdl_tree.proofs.AppendLemmas.{appended_after, then_text}
-use Rattle.amdl_format.specs.Lines.{blanks, line_at}
+use Rattle.amdl_format.specs.Lines.{blanks}
 use Rattle.amdl_format.proofs.statements.put_output.Goals as goal
 
 -- pieces in turn, grouped as in the layout and as they are put
