@@ -1,5 +1,5 @@
 -- Outcomes of loads have one reply, and words and files one answer.
-use Rattle.std.proofs.Common.{◌≡◌, ℕ, ◌<◌, List, [], ◌∷◌, Option, Some, None, Result, Ok, Err, length, get_or, refl, sym, ap, subst, ◌∙◌, arith, codes}
+use Rattle.std.proofs.Common.{◌≡◌, ℕ, ◌<◌, List, [], ◌∷◌, Some, None, Result, Ok, Err, length, get_or, refl, sym, ap, subst, ◌∙◌, arith, codes}
 use Rattle.narrow_form.specs.Laws.{NarrowLayoutIsOneToOne}
 use Rattle.network_file.specs.Laws.{OneReading}
 use Rattle.network_file.specs.declared.reading.ReadRefusal.{ReadRefusal}
@@ -15,11 +15,11 @@ use Rattle.outside.specs.Files.{FileMap}
 use Rattle.plan_text.specs.Text.{report_of}
 use Rattle.amdl_app.specs.Analysis.{IsBadAmong}
 use Rattle.amdl_app.specs.Reply.{Reply, says}
-use Rattle.amdl_app.specs.Command.{Command, Analyse, Format, Asks, Input, inputs_of, output_of}
+use Rattle.amdl_app.specs.Command.{Command, Analyse, Format, Asks, Input, inputs_of}
 use Rattle.amdl_app.specs.Loaded.{Loaded, Found, Over, Lacking, Failed, Tells, EachComes}
 use Rattle.amdl_app.specs.Report.{IsReport, IsAnalysis, formless, reported, status_of}
 use Rattle.amdl_app.specs.Formatting.{IsFormatting, formatted}
-use Rattle.amdl_app.specs.Answer.{AfterNetwork, IsReplyTo, IsCommandReply, IsAnswer, unasked, asked}
+use Rattle.amdl_app.specs.Answer.{AfterNetwork, IsReplyTo, IsCommandReply, unasked, asked}
 use Rattle.amdl_app.specs.Laws.{ReplyIsUnique, AnswerIsUnique, StoresItsFile}
 
 -- what two calls of the same words ask for is the same

@@ -1,5 +1,5 @@
 -- What a load that gave no text comes to.
-use Rattle.std.proofs.Common.{◌≡◌, ℕ, List, [], ◌∷◌}
+use Rattle.std.proofs.Common.{ℕ, List, [], ◌∷◌}
 use Rattle.amdl_app.specs.Answer.{AfterNetwork}
 use Rattle.amdl_app.specs.Loaded.{Loaded, Found, Over, Lacking, Failed}
 use Rattle.amdl_app.specs.Reply.{Reply}

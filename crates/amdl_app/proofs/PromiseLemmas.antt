@@ -18,7 +18,7 @@ use Rattle.amdl_app.specs.Command.{Command, Analyse, Format, Asks, AskNothing, I
 use Rattle.amdl_app.specs.Loaded.{Loaded, Found, Over, Lacking, Failed, Tells, MayCome, EachComes}
 use Rattle.amdl_app.specs.Report.{IsAnalysis, formless, reported, status_of}
 use Rattle.amdl_app.specs.Formatting.{IsFormatting, formatted, refusal_of}
-use Rattle.amdl_app.specs.Answer.{AfterNetwork, IsCommandReply, IsReply, IsAnswer, unasked, asked}
+use Rattle.amdl_app.specs.Answer.{AfterNetwork, IsReply, IsAnswer, unasked, asked}
 use Rattle.amdl_app.specs.Laws.{AnswerIsUnique}
 use Rattle.amdl_app.specs.Outcome.{whole, failed, unfinished, IsCall, no_memory, replied}
 use Rattle.amdl_app.specs.Promises.{GivesAnswer, AnswersUpToThree, AnswersUnhindered, UsageIsRight, IsRefused, RefusalIsRight, IsFileFault, lacks, fails, FileFaultIsRight, SinkFaultIsRight, IsCut, nothing, part, fault, CutsAreFronts}

@@ -23,7 +23,7 @@ use Rattle.plan_text.specs.Laws.{SafeIsTold, MessagesAreNotSafe}
 use Rattle.plan_text.specs.declared.refusal.NetworkRefusal.TheVariants.{TooLong, FirstForm}
 use Rattle.amdl_app.specs.Reply.{Reply, says, refuses}
 use Rattle.amdl_app.specs.Command.{Command, Analyse, Asks, text_limit}
-use Rattle.amdl_app.specs.Loaded.{Loaded, Found, Over, Lacking, Failed, MayCome}
+use Rattle.amdl_app.specs.Loaded.{Found, Over, Lacking, Failed, MayCome}
 use Rattle.amdl_app.specs.Report.{IsReport, IsAnalysis, formless, reported, status_of, HasNoBad, HasBad}
 use Rattle.amdl_app.specs.Answer.{IsCommandReply, IsReply, unasked, asked}
 use Rattle.amdl_app.specs.Outcome.{whole, failed, unfinished, IsCall, no_memory, replied}

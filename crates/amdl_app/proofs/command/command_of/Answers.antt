@@ -1,4 +1,4 @@
-use Rattle.std.proofs.Common.{◌≡◌, ◌∷◌, [], ℕ, List, MatchOption, ◌∙◌, ap, sym, subst, arith}
+use Rattle.std.proofs.Common.{◌≡◌, ◌∷◌, [], ℕ, List, MatchOption, ap, subst, arith}
 use Rattle.std.specs.String.{string_bytes}
 use Rattle.amdl_app.specs.Asked.{asked_for}
 use Rattle.amdl_app.specs.Command.{Asks, AskNothing}

@@ -1,11 +1,10 @@
-use Rattle.std.proofs.Common.{◌≡◌, ◌∷◌, [], List, ℕ, subst, ◌∙◌}
+use Rattle.std.proofs.Common.{◌∷◌, [], List, ℕ, subst}
 use Rattle.amdl_app.specs.Answer.{AfterNetwork, IsCommandReply}
 use Rattle.amdl_app.specs.Answered.{reply_of}
 use Rattle.amdl_app.specs.Asked.{came_to, stopped_by}
 use Rattle.amdl_app.specs.Command.{Format, network_input}
 use Rattle.amdl_app.specs.Formatting.{IsFormatting}
 use Rattle.amdl_app.specs.Loaded.{Found, MayCome}
-use Rattle.amdl_app.specs.Reply.{Reply}
 use Rattle.amdl_app.specs.Seen.{files_seen}
 use Rattle.amdl_app.proofs.Words.{ok_map}
 use Rattle.amdl_app.proofs.LoadLemmas.{after_stop}
