@@ -35,7 +35,7 @@ fn other_answers(rt: HostRuntime) -> Result<(), Fail> {
     assert_eq!(rt; status, 2);
     assert_eq!(rt;
         out.bytes(),
-        b"usage: amdl VERB WORD [WORD]\nverbs: analyse\n".as_slice()
+        b"usage: amdl VERB WORD [WORD]\nverbs: analyse format\n".as_slice()
     );
     Ok(())
 }

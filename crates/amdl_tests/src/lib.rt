@@ -10,6 +10,8 @@ mod failing_system;
 #[cfg(test)]
 mod faults;
 #[cfg(test)]
+mod formatting;
+#[cfg(test)]
 mod headers;
 #[cfg(test)]
 mod language;

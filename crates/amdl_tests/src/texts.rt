@@ -29,12 +29,24 @@ pub(crate) fn full(alloc: Global, values: u32, fields: u32) -> Result<String, Al
     Ok(text)
 }
 
-/// The words `analyse NAME`.
-pub(crate) fn analyse_words(alloc: Global, name: &str) -> Result<Vec<String>, AllocError> {
+/// The words `VERB NAME`.
+pub(crate) fn words_of(alloc: Global, verb: &str, name: &str) -> Result<Vec<String>, AllocError> {
     let mut words = Vec::new(alloc);
-    words.push(String::from_str(alloc, "analyse")?)?;
+    words.push(String::from_str(alloc, verb)?)?;
     words.push(String::from_str(alloc, name)?)?;
     Ok(words)
+}
+
+/// The status of `VERB NAME`.
+pub(crate) fn call<F: Files, S: Sink>(
+    alloc: Global,
+    verb: &str,
+    name: &str,
+    files: &mut F,
+    out: &mut S,
+) -> Result<u8, AllocError> {
+    let words = words_of(alloc, verb, name)?;
+    Ok(run(alloc, words.as_slice(), files, out))
 }
 
 /// The status of `analyse NAME`.
@@ -44,15 +56,19 @@ pub(crate) fn analyse<F: Files, S: Sink>(
     files: &mut F,
     out: &mut S,
 ) -> Result<u8, AllocError> {
-    let words = analyse_words(alloc, name)?;
-    Ok(run(alloc, words.as_slice(), files, out))
+    call(alloc, "analyse", name, files, out)
+}
+
+/// The status and the sink of the verb over one text.
+pub(crate) fn reply_of(alloc: Global, verb: &str, text: &[u8]) -> Result<(u8, SureSink), Fail> {
+    let mut files = SureFiles::new(alloc);
+    files.keep("net", text)?;
+    let mut out = SureSink::new(alloc);
+    let status = call(alloc, verb, "net", &mut files, &mut out)?;
+    Ok((status, out))
 }
 
 /// The status and the sink of the analysis of one text.
 pub(crate) fn analysis_of(alloc: Global, text: &str) -> Result<(u8, SureSink), Fail> {
-    let mut files = SureFiles::new(alloc);
-    files.keep("net", text.as_bytes())?;
-    let mut out = SureSink::new(alloc);
-    let status = analyse(alloc, "net", &mut files, &mut out)?;
-    Ok((status, out))
+    reply_of(alloc, "analyse", text.as_bytes())
 }
