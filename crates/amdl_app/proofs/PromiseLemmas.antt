@@ -21,7 +21,7 @@ use Rattle.amdl_app.specs.Formatting.{IsFormatting, formatted, refusal_of}
 use Rattle.amdl_app.specs.Answer.{AfterNetwork, IsReply, IsAnswer, unasked, asked}
 use Rattle.amdl_app.specs.Laws.{AnswerIsUnique}
 use Rattle.amdl_app.specs.Outcome.{whole, failed, unfinished, IsCall, no_memory, replied}
-use Rattle.amdl_app.specs.Promises.{GivesAnswer, AnswersUpToThree, AnswersUnhindered, UsageIsRight, IsRefused, RefusalIsRight, IsFileFault, lacks, fails, FileFaultIsRight, SinkFaultIsRight, IsCut, nothing, part, fault, CutsAreFronts}
+use Rattle.amdl_app.specs.Promises.{GivesAnswer, AnswersUpToThree, AnswersUnhindered, UsageIsRight, HasRefusal, RefusalIsRight, IsFileFault, lacks, fails, FileFaultIsRight, SinkFaultIsRight, IsCut, nothing, part, fault, CutsAreFronts}
 use Rattle.amdl_app.specs.Seen.{FilesSeen, Seen, WhereTold}
 
 -- what a reply to a text is
@@ -257,7 +257,7 @@ module _ (words : List (List ℕ)) (before after : Seen) (status : ℕ) where
   usage_is_right called = record { only = usage_only called; text = usage_whole called; cut = usage_cut called; statuses = usage_statuses called }
 
   -- refusals
-  refused_reply : (files : FileMap) (reply : Reply) → before.files.told ≡ Some files → Replies reply → reply.status ≡ 3 → IsRefused words files
+  refused_reply : (files : FileMap) (reply : Reply) → before.files.told ≡ Some files → Replies reply → reply.status ≡ 3 → HasRefusal words files
   refused_reply files reply is p three =
       let refused = three_is_refusal words before.files after.files reply (kind_of words before.files after.files reply p) three in (
         refused.0,
@@ -267,20 +267,20 @@ module _ (words : List (List ℕ)) (before after : Seen) (status : ℕ) where
         ]),
       )
 
-  refusal_only : Called → status ≡ 3 → WhereTold before.files (IsRefused words)
+  refusal_only : Called → status ≡ 3 → WhereTold before.files (HasRefusal words)
   refusal_only (no_memory s e f) three files is = absurd (omega arith)
   refusal_only (replied reply p f (whole s e)) three files is = refused_reply files reply is p (sym s ∙ three)
   refusal_only (replied reply p f (failed s rose front)) three files is = absurd (omega arith)
   refusal_only (replied reply p f (unfinished s front)) three files is = absurd (omega arith)
 
   module _ (one_answer : AnswerIsUnique) where
-    refusing_status : (files : FileMap) (reply : Reply) → before.files.told ≡ Some files → IsRefused words files → Replies reply → 3 ≤ reply.status
+    refusing_status : (files : FileMap) (reply : Reply) → before.files.told ≡ Some files → HasRefusal words files → Replies reply → 3 ≤ reply.status
     refusing_status files reply is (refusal, answer) p = elim (reply_answers words before.files after.files files reply is p) [
       | inl other ↦ let s : reply.status ≡ 3 = ap (λ (r : Reply). r.status) (one_answer words files reply (refuses refusal) other answer) in omega arith
       | inr failure ↦ let four : reply.status ≡ 4 = fault_is_four reply failure in omega arith
     ]
 
-    refused_status : (files : FileMap) → before.files.told ≡ Some files → IsRefused words files → Called → 3 ≤ status
+    refused_status : (files : FileMap) → before.files.told ≡ Some files → HasRefusal words files → Called → 3 ≤ status
     refused_status files is refused (no_memory s e f) = omega arith
     refused_status files is refused (replied reply p f (whole s e)) = omega (arith, refusing_status files reply is refused p)
     refused_status files is refused (replied reply p f (failed s rose front)) = omega arith

@@ -27,7 +27,7 @@ use Rattle.amdl_app.specs.Loaded.{Found, Over, Lacking, Failed, MayCome}
 use Rattle.amdl_app.specs.Report.{IsReport, IsAnalysis, formless, reported, status_of, HasNoBad, HasBad}
 use Rattle.amdl_app.specs.Answer.{IsCommandReply, IsReply, unasked, asked}
 use Rattle.amdl_app.specs.Outcome.{whole, failed, unfinished, IsCall, no_memory, replied}
-use Rattle.amdl_app.specs.Promises.{SaysSafe, SafeOnly, SafeRuns, StatusIsRight, SafeIf}
+use Rattle.amdl_app.specs.Promises.{CallSaysSafe, SafeOnly, SafeRuns, StatusIsRight, SafeIf}
 use Rattle.amdl_app.specs.Seen.{FilesSeen, Seen, WhereTold}
 use Rattle.amdl_app.proofs.AnswerLemmas.{command_is_asked}
 use Rattle.amdl_app.proofs.Listing.{none_there}
@@ -160,7 +160,7 @@ module _ (words : List (List ℕ)) (before after : Seen) (status : ℕ) (safe_is
     zero_called zero' (replied reply p f (failed s rose front)) = absurd (omega arith)
     zero_called zero' (replied reply p f (unfinished s front)) = absurd (omega arith)
 
-    said_safe : SaysSafe before after status → Called → IsFoundSafe before.files network
+    said_safe : CallSaysSafe before after status → Called → IsFoundSafe before.files network
     said_safe (inl zero') called = zero_called zero' called
     said_safe (inr some) called = printed some.0 some.1 some.2 some.3 some.4 called
 

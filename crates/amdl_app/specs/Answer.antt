@@ -24,7 +24,8 @@ IsReplyTo (Format network) = AfterNetwork network (λ text others. IsFormatting 
 
 -- the reply to a command, given one outcome of each of its loads, where it is told what a load may come to
 abbrev pub IsCommandReply : (Input → Loaded → Type 0) → Command → Reply → Type 0
-IsCommandReply comes command reply = (loads : List Loaded) × EachComes comes (inputs_of command) loads × IsReplyTo command loads reply
+IsCommandReply comes command reply =
+    (loads : List Loaded) × EachComes comes (inputs_of command) loads × IsReplyTo command loads reply
 
 -- the reply to words
 pub data IsReply (comes : Input → Loaded → Type 0) (words : List (List ℕ)) (reply : Reply) : Type 0 where

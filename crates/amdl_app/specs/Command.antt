@@ -35,9 +35,9 @@ inputs_of (Analyse network) = network_input network ∷ []
 inputs_of (Format network) = network_input network ∷ []
 
 -- the name of the file that it stores
-abbrev pub output_of : Command → Option (List ℕ)
-output_of (Analyse network) = None
-output_of (Format network) = None
+abbrev pub stored_name_of : Command → Option (List ℕ)
+stored_name_of (Analyse network) = None
+stored_name_of (Format network) = None
 
 -- the words ask for a command that loads a file of this name
 pub record LoadsFile (words : List (List ℕ)) (name : List ℕ) : Type 0 where
@@ -49,4 +49,4 @@ pub record LoadsFile (words : List (List ℕ)) (name : List ℕ) : Type 0 where
 
 -- they ask for no command that loads or stores a file
 abbrev pub UseNoFile : List (List ℕ) → Type 0
-UseNoFile words = (command : Command) → Asks words command → (inputs_of command ≡ []) × (output_of command ≡ None)
+UseNoFile words = (command : Command) → Asks words command → (inputs_of command ≡ []) × (stored_name_of command ≡ None)

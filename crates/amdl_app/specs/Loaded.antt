@@ -22,10 +22,11 @@ Tells files input Over = IsLonger (file_of files input.name) input.limit
 Tells files input Lacking = file_of files input.name ≡ None
 Tells files input Failed = ⊥
 
--- what it may come to in a call: what the map tells where it is told, and a failure, or an absence that no map tells, only
--- where the count of faults rose
+-- what it may come to in a call: what the map tells where it is told, and a failure, or an absence that no map tells,
+-- only where the count of faults rose
 abbrev pub MayCome : FilesSeen → FilesSeen → Input → Loaded → Type 0
-MayCome before after input (Found text) = (length text ≤ input.limit) × WhereTold before (λ files. file_of files input.name ≡ Some text)
+MayCome before after input (Found text) =
+    (length text ≤ input.limit) × WhereTold before (λ files. file_of files input.name ≡ Some text)
 MayCome before after input Over = WhereTold before (λ files. IsLonger (file_of files input.name) input.limit)
 MayCome before after input Lacking = LacksFile before.told input.name before.faults after.faults
 MayCome before after input Failed = Rose before.faults after.faults

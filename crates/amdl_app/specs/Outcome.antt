@@ -16,12 +16,16 @@ Leaves (Some file) before after = after ≡ with_known_file before file.0 file.1
 
 -- a reply was put out, whole or in part
 pub data IsPutOut (reply : Reply) (before after : SinkSeen) (status : ℕ) : Type 0 where
-  whole : status ≡ reply.status → after.written ≡ append_known before.written reply.text → IsPutOut reply before after status
-  failed : status ≡ 5 → Rose before.faults after.faults → AppendsFront before.written after.written reply.text → IsPutOut reply before after status
+  whole : status ≡ reply.status → after.written ≡ append_known before.written reply.text →
+      IsPutOut reply before after status
+  failed : status ≡ 5 → Rose before.faults after.faults → AppendsFront before.written after.written reply.text →
+      IsPutOut reply before after status
   unfinished : status ≡ 6 → AppendsFront before.written after.written reply.text → IsPutOut reply before after status
 
 -- a call of the program: it found no memory for a reply and changed nothing, or it carried one out
 pub data IsCall (words : List (List ℕ)) (before after : Seen) (status : ℕ) : Type 0 where
-  no_memory : status ≡ 6 → after.sink.written ≡ before.sink.written → after.files.told ≡ before.files.told → IsCall words before after status
+  no_memory : status ≡ 6 → after.sink.written ≡ before.sink.written → after.files.told ≡ before.files.told →
+      IsCall words before after status
   replied : (reply : Reply) → IsReply (MayCome before.files after.files) words reply →
-      Leaves reply.stored before.files.told after.files.told → IsPutOut reply before.sink after.sink status → IsCall words before after status
+      Leaves reply.stored before.files.told after.files.told → IsPutOut reply before.sink after.sink status →
+      IsCall words before after status

@@ -1,4 +1,5 @@
--- What a call of the program promises, over the words, what is seen of files and output before and after it, and the status.
+-- What a call of the program promises, over the words, what is seen of files and output before and after it, and the
+-- status.
 use Rattle.std.specs.Prelude.{◌≡◌, ◌≢◌, ℕ, ◌≤◌, ◌⊎◌, List, ◌++◌, length, map, Some}
 use Rattle.std.specs.String.{string_bytes}
 use Rattle.std.specs.declared.string.String.{String}
@@ -71,17 +72,18 @@ pub record UsageIsRight (words : List (List ℕ)) (before after : Seen) (status 
   pub statuses : AskNothing words → (status ≡ 2) ⊎ ((status ≡ 5) ⊎ (status ≡ 6))
 
 -- the answer refuses a text that the words load
-abbrev pub IsRefused : List (List ℕ) → FileMap → Type 0
-IsRefused words files = (refusal : NetworkRefusal) × IsAnswer words files (refuses refusal)
+abbrev pub HasRefusal : List (List ℕ) → FileMap → Type 0
+HasRefusal words files = (refusal : NetworkRefusal) × IsAnswer words files (refuses refusal)
 
 -- status 3 comes only there, and there the status is 3, 4, 5 or 6
 pub record RefusalIsRight (words : List (List ℕ)) (before : Seen) (status : ℕ) : Type 0 where
-  pub only : status ≡ 3 → WhereTold before.files (IsRefused words)
-  pub statuses : WhereTold before.files (λ files. IsRefused words files → (3 ≤ status) × (status ≤ 6))
+  pub only : status ≡ 3 → WhereTold before.files (HasRefusal words)
+  pub statuses : WhereTold before.files (λ files. HasRefusal words files → (3 ≤ status) × (status ≤ 6))
 
 -- a file that the words load is missing, or loading it failed, and that is all that is appended
 pub data IsFileFault (words : List (List ℕ)) (before after : Seen) : Type 0 where
-  lacks : (name : List ℕ) → LoadsFile words name → LacksFile before.files.told name before.files.faults after.files.faults →
+  lacks : (name : List ℕ) → LoadsFile words name →
+      LacksFile before.files.told name before.files.faults after.files.faults →
       Appends before after (missing_text name) → IsFileFault words before after
   fails : (name : List ℕ) → LoadsFile words name → FilesFailed before after →
       Appends before after (fault_load_text name) → IsFileFault words before after
@@ -90,27 +92,31 @@ pub record FileFaultIsRight (words : List (List ℕ)) (before after : Seen) (sta
   -- one whole text is appended
   pub text : status ≡ 4 → IsFileFault words before after
   -- without a fault of the files it is the answer's
-  pub answer : status ≡ 4 → ¬ FilesFailed before after → WhereTold before.files (λ files. GivesAnswer words files before after status)
+  pub answer : status ≡ 4 → ¬ FilesFailed before after →
+      WhereTold before.files (λ files. GivesAnswer words files before after status)
 
 -- status 5 comes only where the count of the output's faults rose
 abbrev pub SinkFaultIsRight : Seen → Seen → ℕ → Type 0
 SinkFaultIsRight before after status = status ≡ 5 → SinkFailed before after
 
--- what a reply that was cut short has appended: nothing, a front of the answer's text, or where the files failed a front of
--- the text that says so
+-- what a reply that was cut short has appended: nothing, a front of the answer's text, or where the files failed a
+-- front of the text that says so
 pub data IsCut (words : List (List ℕ)) (files : FileMap) (before after : Seen) : Type 0 where
   nothing : after.sink.written ≡ before.sink.written → IsCut words files before after
-  part : (reply : Reply) → IsAnswer words files reply → AppendsFrontOf before after reply.text → IsCut words files before after
-  fault : FilesFailed before after → (name : List ℕ) → LoadsFile words name → AppendsFrontOf before after (fault_load_text name) → IsCut words files before after
+  part : (reply : Reply) → IsAnswer words files reply → AppendsFrontOf before after reply.text →
+      IsCut words files before after
+  fault : FilesFailed before after → (name : List ℕ) → LoadsFile words name →
+      AppendsFrontOf before after (fault_load_text name) → IsCut words files before after
 
 abbrev pub CutsAreFronts : List (List ℕ) → Seen → Seen → ℕ → Type 0
 CutsAreFronts words before after status = 5 ≤ status → WhereTold before.files (λ files. IsCut words files before after)
 
 -- the call says SAFE: by its status, or by a front of three lines in what it appended
-abbrev pub SaysSafe : Seen → Seen → ℕ → Type 0
-SaysSafe before after status =
+abbrev pub CallSaysSafe : Seen → Seen → ℕ → Type 0
+CallSaysSafe before after status =
     (status ≡ 0)
-    ⊎ ((old : List ℕ) × (appended : List ℕ) × (before.sink.written ≡ Some old) × (after.sink.written ≡ Some (old ++ appended)) × PrintsSafe appended)
+    ⊎ ((old : List ℕ) × (appended : List ℕ) × (before.sink.written ≡ Some old)
+    × (after.sink.written ≡ Some (old ++ appended)) × PrintsSafe appended)
 
 -- the text has the narrow form, and no derivation of a network that it spells ends in a bad fact
 pub record IsSafeText (text : List ℕ) : Type 0 where
@@ -120,13 +126,13 @@ pub record IsSafeText (text : List ℕ) : Type 0 where
 -- SAFE is said only of files whose network has no derivable bad fact
 abbrev pub SafeOnly : List (List ℕ) → Seen → Seen → ℕ → Type 0
 SafeOnly words before after status =
-    (network : List ℕ) → Asks words (Analyse network) → SaysSafe before after status →
+    (network : List ℕ) → Asks words (Analyse network) → CallSaysSafe before after status →
     WhereTold before.files (λ files. (text : List ℕ) × (file_of files network ≡ Some text) × IsSafeText text)
 
 -- where SAFE is said, no run of a network that the file spells, of any length and in either mode, has a bad event
 abbrev pub SafeRuns : List (List ℕ) → Seen → Seen → ℕ → Type 0
 SafeRuns words before after status =
-    (network : List ℕ) → Asks words (Analyse network) → SaysSafe before after status → WhereTold before.files (λ files.
+    (network : List ℕ) → Asks words (Analyse network) → CallSaysSafe before after status → WhereTold before.files (λ files.
     (text : List ℕ) → file_of files network ≡ Some text →
     (tree : Tree) → IsNarrow tree → layout_of_tree tree ≡ text → HasNoBadRun (net tree))
 
@@ -136,8 +142,8 @@ pub record StatusIsRight (tree : Tree) (status : ℕ) : Type 0 where
   pub safe : status ≡ 0 → HasNoBad (net tree)
   pub alarm : status ≡ 1 → HasBad (net tree)
 
--- a file within the limit that has the narrow form isn't refused, is SAFE only where no derivation ends in a bad fact, and
--- is an ALARM only where one does
+-- a file within the limit that has the narrow form isn't refused, is SAFE only where no derivation ends in a bad fact,
+-- and is an ALARM only where one does
 abbrev pub SafeIf : List (List ℕ) → Seen → ℕ → Type 0
 SafeIf words before status =
     (network : List ℕ) → Asks words (Analyse network) → WhereTold before.files (λ files.

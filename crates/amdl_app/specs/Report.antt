@@ -44,4 +44,5 @@ pub data IsAnalysis (text : List ℕ) (reply : Reply) : Type 0 where
   -- it hasn't the narrow form
   formless : (HasNarrowForm text → ⊥) → reply ≡ refuses FirstForm → IsAnalysis text reply
   -- the report of its network
-  reported : (tree : Tree) → IsNarrow tree → layout_of_tree tree ≡ text → IsReport (net tree) reply → IsAnalysis text reply
+  reported : (tree : Tree) → IsNarrow tree → layout_of_tree tree ≡ text → IsReport (net tree) reply →
+      IsAnalysis text reply

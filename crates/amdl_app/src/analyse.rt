@@ -22,7 +22,8 @@ pub fn analyse<F: Files>(alloc: Global, network: &str, files: &mut F) -> Result<
     ensures kept { F.told files.new ≡ F.told files.old }
     ensures later { F.faults files.old ≤ F.faults files.new }
     ensures reply { IfOk result (λ answer. IsCommandReply
-        (MayCome (files_seen F.told F.faults files.old) (files_seen F.told F.faults files.new)) (Analyse network.now) (reply_of answer)) }
+        (MayCome (files_seen F.told F.faults files.old) (files_seen F.told F.faults files.new))
+        (Analyse network.now) (reply_of answer)) }
 {
     let loaded = load_network(alloc, network, files)?;
     match loaded {

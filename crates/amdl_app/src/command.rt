@@ -15,7 +15,8 @@ pub enum Command<'a> {
 
 /// What the words ask for. None comes exactly where they are no row of the table.
 pub fn command_of(words: &[String]) -> Option<Command<'_>>
-    ensures { MatchOption result (AskNothing (spelled words.now)) (λ command. Asks (spelled words.now) (asked_for command)) }
+    ensures { MatchOption result
+        (AskNothing (spelled words.now)) (λ command. Asks (spelled words.now) (asked_for command)) }
 {
     match words {
         [verb, network] => command_on(verb.as_str(), network.as_str()),
@@ -25,7 +26,9 @@ pub fn command_of(words: &[String]) -> Option<Command<'_>>
 
 // What a verb with one word behind it asks for.
 fn command_on<'a>(verb: &str, network: &'a str) -> Option<Command<'a>>
-    ensures { MatchOption result (AskNothing (verb.now ∷ network.now ∷ [])) (λ command. Asks (verb.now ∷ network.now ∷ []) (asked_for command)) }
+    ensures { MatchOption result
+        (AskNothing (verb.now ∷ network.now ∷ []))
+        (λ command. Asks (verb.now ∷ network.now ∷ []) (asked_for command)) }
 {
     if verb == "analyse" {
         return Some(Command::Analyse(network));

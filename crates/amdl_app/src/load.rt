@@ -41,7 +41,8 @@ pub fn load_network<F: Files>(alloc: Global, name: &str, files: &mut F) -> Resul
     ensures kept { F.told files.new ≡ F.told files.old }
     ensures later { F.faults files.old ≤ F.faults files.new }
     ensures came { IfOk result (λ loaded.
-        MayCome (files_seen F.told F.faults files.old) (files_seen F.told F.faults files.new) (network_input name.now) (came_to loaded)) }
+        MayCome (files_seen F.told F.faults files.old) (files_seen F.told F.faults files.new)
+        (network_input name.now) (came_to loaded)) }
 {
     let mut text = Vec::new(alloc);
     match files.load(alloc, name, TEXT_LIMIT, &mut text) {
@@ -55,7 +56,8 @@ pub fn load_network<F: Files>(alloc: Global, name: &str, files: &mut F) -> Resul
 
 /// The answer where the file of this name gave no text of a network.
 pub fn stop_answer(alloc: Global, name: &str, stop: Stop) -> Result<Answer, NoMemory>
-    ensures { IfOk result (λ answer. AfterNetwork name.now (λ text others reply. ⊥) (stopped_by stop ∷ []) (reply_of answer)) }
+    ensures { IfOk result (λ answer.
+        AfterNetwork name.now (λ text others reply. ⊥) (stopped_by stop ∷ []) (reply_of answer)) }
 {
     match stop {
         Stop::TooLong => refusal_answer(alloc, NetworkRefusal::TooLong),

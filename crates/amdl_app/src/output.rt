@@ -28,7 +28,8 @@ pub fn put_text<S: Sink>(alloc: Global, text: &[u8], out: &mut S) -> Result<(), 
 /// The next piece of a text and what stands behind it. Nothing is left exactly where there is none.
 pub fn next_piece(rest: &[u8]) -> Option<(&[u8], &[u8])>
     ensures { MatchOption result (rest.now ≡ [])
-        (λ cut. (rest.now ≡ cut.0.now ++ cut.1.now) × (length cut.0.now ≡ min (length rest.now) 4096) × (0 < length cut.0.now)) }
+        (λ cut. (rest.now ≡ cut.0.now ++ cut.1.now)
+        × (length cut.0.now ≡ min (length rest.now) 4096) × (0 < length cut.0.now)) }
 {
     if rest.is_empty() {
         return None;

@@ -24,10 +24,10 @@ use std::alloc::Global;
 
 /// Does all that the program does for the words after its name, and answers its exit status.
 ///
-/// Status 0: SAFE, or done; 1: ALARM; 2: the words are no row of the table; 3: a text that was loaded is refused; 4: a file
-/// is missing or loading it failed; 5: putting the text out failed; 6: want of memory. With the statuses 0 to 4 the whole
-/// text was appended to the sink, with 5 and 6 a front of it. It takes time linear in the text of the network, and for
-/// `analyse` in its packets.
+/// Status 0: SAFE, or done; 1: ALARM; 2: the words are no row of the table; 3: a text that was loaded is refused; 4: a
+/// file is missing or loading it failed; 5: putting the text out failed; 6: want of memory. With the statuses 0 to 4 the
+/// whole text was appended to the sink, with 5 and 6 a front of it. It takes time linear in the text of the network,
+/// and for `analyse` in its packets.
 pub fn run<F: Files, S: Sink>(alloc: Global, words: &[String], files: &mut F, out: &mut S) -> u8
     ensures status { result ≤ 6 }
 
@@ -108,7 +108,8 @@ fn answer_to<F: Files>(alloc: Global, words: &[String], files: &mut F) -> Result
     ensures later { F.faults files.old ≤ F.faults files.new }
     ensures quiet { UseNoFile (spelled words.now) → F.faults files.new ≡ F.faults files.old }
     ensures reply { IfOk result (λ answer. IsReply
-        (MayCome (files_seen F.told F.faults files.old) (files_seen F.told F.faults files.new)) (spelled words.now) (reply_of answer)) }
+        (MayCome (files_seen F.told F.faults files.old) (files_seen F.told F.faults files.new))
+        (spelled words.now) (reply_of answer)) }
 {
     match command_of(words) {
         Some(command) => reply_to(alloc, command, files),
@@ -126,7 +127,8 @@ fn reply_to<F: Files>(
     ensures later { F.faults files.old ≤ F.faults files.new }
     ensures quiet { inputs_of (asked_for command.entry) ≡ [] → F.faults files.new ≡ F.faults files.old }
     ensures reply { IfOk result (λ answer. IsCommandReply
-        (MayCome (files_seen F.told F.faults files.old) (files_seen F.told F.faults files.new)) (asked_for command.entry) (reply_of answer)) }
+        (MayCome (files_seen F.told F.faults files.old) (files_seen F.told F.faults files.new))
+        (asked_for command.entry) (reply_of answer)) }
 {
     match command {
         Command::Analyse(network) => analyse(alloc, network, files),
@@ -137,7 +139,8 @@ fn reply_to<F: Files>(
 // Puts an answer out, and answers its status where that succeeds.
 fn put_answer<S: Sink>(alloc: Global, answer: &Answer, out: &mut S) -> u8
     ensures later { S.faults out.old ≤ S.faults out.new }
-    ensures put_out { IsPutOut (reply_of answer.now) (sink_seen S.written S.faults out.old) (sink_seen S.written S.faults out.new) result }
+    ensures put_out { IsPutOut (reply_of answer.now)
+        (sink_seen S.written S.faults out.old) (sink_seen S.written S.faults out.new) result }
 {
     match put_text(alloc, answer.text.as_slice(), out) {
         Ok(()) => answer.status,

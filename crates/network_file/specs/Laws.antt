@@ -14,7 +14,7 @@ use Rattle.network_file.specs.Reading.{IsReadAs}
 abbrev pub OneReading : Type 0
 OneReading = (text : List ℕ) (one two : Result Tree ReadRefusal) → IsReadAs text one → IsReadAs text two → one ≡ two
 
--- where the text has at most 4,194,304 bytes and the tree at most 1,000,000 tokens, the text is cut into tokens, and these
+-- where the text has at most 4,194,304 bytes and the tree at most 1,000,000 tokens, the text is cut into tokens, which
 -- are parsed as the tree
 abbrev pub ReadsBack : List ℕ → Tree → Type 0
 ReadsBack text tree =

@@ -27,14 +27,15 @@ pub enum ReadRefusal {
 
 /// The tree of a network file of at most 4,194,304 bytes, or why the text is none.
 ///
-/// The whole text is cut into tokens before any is read, so a fault of its bytes goes before one of its tokens; among each
+/// The whole text is cut into tokens before any is read, so a fault of its bytes goes before one of its tokens; of each
 /// kind the first fault counts. The one error is want of memory. Time is linear in the text.
 pub fn read(alloc: Global, text: &[u8]) -> Result<Result<Tree, ReadRefusal>, NoMemory>
     requires { length text.now ≤ 4194304 }
     ensures read { IfOk result (IsReadAs text.now) }
 
     // What the text is read as by the definitions is the answer, unless memory runs out.
-    ensures exact { (reading : Result Tree ReadRefusal) → IsReadAs text.now reading → IfOk result (λ found. found ≡ reading) }
+    ensures exact { (reading : Result Tree ReadRefusal) → IsReadAs text.now reading →
+        IfOk result (λ found. found ≡ reading) }
 {
     one_reading();
     read_text(alloc, text)

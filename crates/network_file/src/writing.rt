@@ -7,8 +7,8 @@ use crate::laws::layout_reads_back;
 use amdl_format::format;
 use amdl_tree::{NoMemory, Tree};
 
-/// Appends the canonical layout of a tree. Where it is within the limits of a network file, lexing and parsing it gives the
-/// tree.
+/// Appends the canonical layout of a tree. Where it is within the limits of a network file, lexing and parsing it gives
+/// the tree.
 ///
 /// Want of memory is the one error, and then nothing is appended. Time is linear in the layout.
 pub fn write(tree: &Tree, out: &mut Vec<u8>) -> Result<(), NoMemory>

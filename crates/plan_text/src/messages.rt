@@ -40,15 +40,18 @@ pub fn put_refused(refusal: NetworkRefusal, out: &mut Vec<u8>) -> Result<(), NoM
 // Appends a refusal for this reason.
 fn put_reason(reason: &[u8], out: &mut Vec<u8>) -> Result<(), NoMemory>
     ensures ok { OnOk result (out.new.items ≡ out.old.items ++ line (codes "refused network " ++ reason.now)) }
-    ensures err { OnErr result (AppendsPart out.old.items out.new.items (line (codes "refused network " ++ reason.now))) }
+    ensures err { OnErr result
+        (AppendsPart out.old.items out.new.items (line (codes "refused network " ++ reason.now))) }
 {
     put_all(out, &[b"refused network ", reason, b"\n"])
 }
 
 // Appends a refusal for a fault at a place, with what stands before the place and behind it.
 fn put_placed(before: &[u8], at: u32, fault: &[u8], out: &mut Vec<u8>) -> Result<(), NoMemory>
-    ensures ok { OnOk result (out.new.items ≡ out.old.items ++ line (codes "refused network " ++ (before.now ++ decimal at ++ fault.now))) }
-    ensures err { OnErr result (AppendsPart out.old.items out.new.items (line (codes "refused network " ++ (before.now ++ decimal at ++ fault.now)))) }
+    ensures ok { OnOk result (out.new.items
+        ≡ out.old.items ++ line (codes "refused network " ++ (before.now ++ decimal at ++ fault.now))) }
+    ensures err { OnErr result (AppendsPart out.old.items out.new.items
+        (line (codes "refused network " ++ (before.now ++ decimal at ++ fault.now)))) }
 {
     let place = Digits::of(at as u64);
     put_all(
