@@ -5,6 +5,7 @@ pub mod Example
 pub mod ExampleClass
 pub mod formers
 pub mod GoesOn
+pub mod Items
 pub mod Laws
 pub mod Layout
 pub mod Lexical
