@@ -1,0 +1,6 @@
+use Rattle.box_contents.proofs.Entries.{entries_total}
+use Rattle.box_contents.proofs.Held as held
+use Rattle.box_contents.proofs.laws.held_without.Goals as goal
+
+pub returns : goal.returns
+returns c = λ entries entry other. held.held_without entries_total entry other entries
