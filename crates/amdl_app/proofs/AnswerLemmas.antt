@@ -9,6 +9,7 @@ use Rattle.net_plan.specs.declared.plan.Plan.{Plan}
 use Rattle.net_plan.specs.declared.fact.Fact.{Fact}
 use Rattle.net_plan.specs.Laws.{RisingIsUnique, LeastIsUnique}
 use Rattle.net_plan.specs.Fact.{ListsExactly}
+use Rattle.net_plan.specs.Plan.{HasNoBox}
 use Rattle.net_plan.specs.Net.{net}
 use Rattle.narrow_form.specs.NarrowForm.{IsNarrow}
 use Rattle.outside.specs.Files.{FileMap}
@@ -89,6 +90,10 @@ after_once name goes_on once (Over ∷ others) one two p q = p ∙ sym q
 after_once name goes_on once (Lacking ∷ others) one two p q = p ∙ sym q
 after_once name goes_on once (Failed ∷ others) one two p q = p ∙ sym q
 
+-- the network of a narrow tree has no box
+pub boxless : (tree : Tree) → IsNarrow tree → HasNoBox (net tree)
+boxless tree narrow = refl
+
 abbrev report_reply : Plan → List Fact → List Fact → Reply
 report_reply plan facts bad = says (status_of bad) (report_of plan facts bad)
 
@@ -96,9 +101,9 @@ module _ (one_layout : NarrowLayoutIsOneToOne) (one_rising : RisingIsUnique) (on
   narrow_is_one : (t u : Tree) → IsNarrow t → IsNarrow u → layout_of_tree t ≡ layout_of_tree u → t ≡ u
   narrow_is_one t u one two same = one_layout t u one two same
 
-  report_is_one : (plan : Plan) (one two : Reply) → IsReport plan one → IsReport plan two → one ≡ two
-  report_is_one plan one two first second =
-      let facts : first.facts ≡ second.facts = one_least plan first.facts second.facts first.least second.least in
+  report_is_one : (plan : Plan) (one two : Reply) → HasNoBox plan → IsReport plan one → IsReport plan two → one ≡ two
+  report_is_one plan one two no_box first second =
+      let facts : first.facts ≡ second.facts = one_least plan first.facts second.facts no_box first.least second.least in
       let listed : ListsExactly (IsBadAmong plan first.facts) second.bad = subst (λ (f : List Fact). ListsExactly (IsBadAmong plan f) second.bad) (sym facts) second.bad_ones in
       let bad : first.bad ≡ second.bad = one_rising first.bad second.bad first.bad_ones.rising listed.rising
       (λ fact. (λ there. (listed.member fact).1 ((first.bad_ones.member fact).0 there), λ there. (first.bad_ones.member fact).1 ((listed.member fact).0 there))) in
@@ -109,7 +114,7 @@ module _ (one_layout : NarrowLayoutIsOneToOne) (one_rising : RisingIsUnique) (on
   analysis_is_one text one two (formless none e) (reported tree narrow layout report) = absurd (none (tree, narrow, layout))
   analysis_is_one text one two (reported tree narrow layout report) (formless none e) = absurd (none (tree, narrow, layout))
   analysis_is_one text one two (reported tree narrow layout report) (reported tree' narrow' layout' report') =
-      report_is_one (net tree) one two report
+      report_is_one (net tree) one two (boxless tree narrow) report
       (subst (λ (t : Tree). IsReport (net t) two) (narrow_is_one tree' tree narrow' narrow (layout' ∙ sym layout)) report')
 
   formatting_is_one : (text : List ℕ) (one two : Reply) → IsFormatting text one → IsFormatting text two → one ≡ two

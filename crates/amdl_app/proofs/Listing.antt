@@ -4,15 +4,20 @@ use Rattle.std.specs.List.{Contains}
 use Rattle.std.proofs.lemmas.List.Elements.{Contains-append_left, Contains-push, Contains-push_cases, Contains-get_or}
 use Rattle.std.proofs.lemmas.List.Quantifiers.{all_pairs_push}
 use Rattle.std.proofs.lemmas.Bool.{cases_lt}
+use Rattle.std.proofs.lemmas.Option.{slice_get_within}
 use Rattle.std.proofs.lemmas.List.{take_more, get_or_default, get_or-take, length-take-le}
 use Rattle.net_plan.specs.declared.plan.Plan.{Plan}
 use Rattle.net_plan.specs.declared.fact.Fact.{Fact}
 use Rattle.net_plan.specs.declared.fact.Fact.TheVariants.{Out, State, Abort}
-use Rattle.net_plan.specs.Fact.{IsPairBelow, Precedes, IsRising, ListsExactly}
-use Rattle.net_plan.specs.Plan.{packets_of, end_of_host, Sends}
-use Rattle.plan_text.specs.Text.{IsOutInRange}
-use Rattle.net_plan.specs.Follows.{Starts, IsBad, IsInRange}
-use Rattle.amdl_app.specs.Analysis.{SentBefore, IsBadAmong}
+use Rattle.net_plan.specs.declared.fact.Place.TheVariants.{Host}
+use Rattle.net_plan.specs.Fact.{Precedes, IsRising, ListsExactly}
+use Rattle.net_plan.specs.Plan.{packets_of, Sends}
+use Rattle.net_plan.specs.Ends.{places_of, IsEndAt}
+use Rattle.net_plan.specs.Cells.{IsInRange}
+use Rattle.net_plan.specs.Laws.{HostEnds}
+use Rattle.plan_text.specs.Text.{HasLine}
+use Rattle.net_plan.specs.Follows.{Starts, IsBad}
+use Rattle.amdl_app.specs.Analysis.{IsPairBelow, SentBefore, IsBadAmong}
 
 pub none_there : {X : Type 0} (x : X) → Contains [] x → ⊥
 none_there x there = let less : there.0 < 0 = there.1 in absurd (omega arith)
@@ -56,93 +61,119 @@ wider a b c d (inl less) = inl less
 wider a b c d (inr same) = inr (same.0, (let less : b < d + 1 = let before : b < d = same.1 in omega arith in less))
 
 -- what a host sends
-pub sent_more : (plan : Plan) (host packet : ℕ) → host < length plan.hosts → packet < packets_of plan → Sends plan host packet →
-    (fact : Fact) → SentBefore plan host (packet + 1) fact ↔ (SentBefore plan host packet fact ⊎ (Out host packet ≡ fact))
-sent_more plan host packet in' below sends (Out end other) = (
-  λ sent. elim sent.1 [
-    | inl less ↦ inl (sent.0, inl less)
-    | inr same ↦ elim (near other packet same.1) [
-      | inl less ↦ inl (sent.0, inr (same.0, less))
-      | inr equal ↦ inr (ap (λ (e : ℕ). Out e packet) (sym same.0) ∙ ap (Out end) (sym equal))
-    ]
-  ],
-  λ either. elim either [
-    | inl sent ↦ (sent.0, wider end other host packet sent.1)
-    | inr same ↦ subst (SentBefore plan host (packet + 1)) same ((host, in', refl, below, sends), inr (refl, (let less : packet < packet + 1 = omega arith in less)))
-  ],
-)
-sent_more plan host packet in' below sends (State box other mask) = (λ sent. absurd sent.0, λ either. elim either [ inl sent ↦ absurd sent.0 | inr same ↦ absurd (cc) ])
-sent_more plan host packet in' below sends (Abort box other) = (λ sent. absurd sent.0, λ either. elim either [ inl sent ↦ absurd sent.0 | inr same ↦ absurd (cc) ])
+module _ (ends : HostEnds) (plan : Plan) where
+  number : (end host : ℕ) → IsEndAt plan end (Host host) → end ≡ host
+  number end host at = ((ends plan end host).0 at).1
 
--- what the host doesn't send adds nothing
-pub sent_same : (plan : Plan) (host packet : ℕ) → (Sends plan host packet → ⊥) →
-    (fact : Fact) → SentBefore plan host packet fact ↔ SentBefore plan host (packet + 1) fact
-sent_same plan host packet not_sent (Out end other) = (
-  λ sent. (sent.0, wider end other host packet sent.1),
-  λ sent. (
-    sent.0,
-    elim sent.1 [
-      | inl less ↦ inl less
+  pub sent_more : (host end packet : ℕ) → IsEndAt plan end (Host host) → packet < packets_of plan → Sends plan host packet →
+      (fact : Fact) → SentBefore plan host (packet + 1) fact ↔ (SentBefore plan host packet fact ⊎ (Out end packet ≡ fact))
+  sent_more host end packet at below sends (Out other_end other) = (
+    λ sent. elim sent.4 [
+      | inl less ↦ inl (sent.0, sent.1, sent.2, sent.3, inl less)
       | inr same ↦ elim (near other packet same.1) [
-        | inl less ↦ inr (same.0, less)
-        | inr equal ↦ absurd (not_sent (subst (Sends plan host) equal
-            (subst (λ (h : ℕ). Sends plan h other) (sym sent.0.2 ∙ same.0) sent.0.4)))
+        | inl less ↦ inl (sent.0, sent.1, sent.2, sent.3, inr (same.0, less))
+        | inr equal ↦
+            let ends_same : end ≡ other_end = number end host at ∙ sym same.0 ∙ sym (number other_end sent.0 sent.1) in
+            inr (ap (λ (e : ℕ). Out e packet) ends_same ∙ ap (Out other_end) (sym equal))
       ]
     ],
-  ),
-)
-sent_same plan host packet not_sent (State box other mask) = (λ sent. absurd sent.0, λ sent. absurd sent.0)
-sent_same plan host packet not_sent (Abort box other) = (λ sent. absurd sent.0, λ sent. absurd sent.0)
-
--- after the last packet comes the next host
-pub sent_all : (plan : Plan) (host : ℕ) → (fact : Fact) → SentBefore plan host (packets_of plan) fact ↔ SentBefore plan (host + 1) 0 fact
-sent_all plan host (Out end other) = (
-  λ sent. (
-    sent.0,
-    elim sent.1 [
-      | inl less ↦ inl (let more : end < host + 1 = omega arith in more)
-      | inr same ↦ inl (let e : end ≡ host = same.0 in let more : end < host + 1 = omega arith in more)
+    λ either. elim either [
+      | inl sent ↦ (sent.0, sent.1, sent.2, sent.3, wider sent.0 other host packet sent.4)
+      | inr same ↦ subst (SentBefore plan host (packet + 1)) same (host, at, below, sends, inr (refl, (let less : packet < packet + 1 = omega arith in less)))
     ],
-  ),
-  λ sent. (
-    sent.0,
-    elim sent.1 [
-      | inl less ↦ elim (near end host less) [ inl before ↦ inl before | inr same ↦ inr (same, sent.0.3) ]
-      | inr same ↦ absurd (let none : other < 0 = same.1 in omega arith)
-    ],
-  ),
-)
-sent_all plan host (State box other mask) = (λ sent. absurd sent.0, λ sent. absurd sent.0)
-sent_all plan host (Abort box other) = (λ sent. absurd sent.0, λ sent. absurd sent.0)
+  )
+  sent_more host end packet at below sends (State box other mask) = (λ sent. absurd sent, λ either. elim either [ inl sent ↦ absurd sent | inr same ↦ absurd (cc) ])
+  sent_more host end packet at below sends (Abort box other) = (λ sent. absurd sent, λ either. elim either [ inl sent ↦ absurd sent | inr same ↦ absurd (cc) ])
 
-pub sent_none : (plan : Plan) (fact : Fact) → SentBefore plan 0 0 fact → ⊥
-sent_none plan (Out end other) sent =
-    elim sent.1 [ inl less ↦ absurd (let none : end < 0 = less in omega arith) | inr same ↦ absurd (let none : other < 0 = same.1 in omega arith) ]
-sent_none plan (State box other mask) sent = sent.0
-sent_none plan (Abort box other) sent = sent.0
+  -- what the host doesn't send adds nothing
+  pub sent_same : (host packet : ℕ) → (Sends plan host packet → ⊥) →
+      (fact : Fact) → SentBefore plan host packet fact ↔ SentBefore plan host (packet + 1) fact
+  sent_same host packet not_sent (Out end other) = (
+    λ sent. (sent.0, sent.1, sent.2, sent.3, wider sent.0 other host packet sent.4),
+    λ sent. (
+      sent.0,
+      sent.1,
+      sent.2,
+      sent.3,
+      elim sent.4 [
+        | inl less ↦ inl less
+        | inr same ↦ elim (near other packet same.1) [
+          | inl less ↦ inr (same.0, less)
+          | inr equal ↦ absurd (not_sent (subst (Sends plan host) equal (subst (λ (h : ℕ). Sends plan h other) same.0 sent.3)))
+        ]
+      ],
+    ),
+  )
+  sent_same host packet not_sent (State box other mask) = (λ sent. absurd sent, λ sent. absurd sent)
+  sent_same host packet not_sent (Abort box other) = (λ sent. absurd sent, λ sent. absurd sent)
 
--- before a host past the last stands all that is sent
-pub sent_by_all : (plan : Plan) (fact : Fact) → SentBefore plan (length plan.hosts) 0 fact ↔ Starts plan fact
-sent_by_all plan (Out end other) = (
-  λ sent. sent.0,
-  λ starts. (starts, inl (subst (λ (e : ℕ). e < length plan.hosts) (sym starts.2) starts.1)),
-)
-sent_by_all plan (State box other mask) = (λ sent. sent.0, λ starts. absurd starts)
-sent_by_all plan (Abort box other) = (λ sent. sent.0, λ starts. absurd starts)
+  -- after the last packet comes the next host
+  pub sent_all : (host : ℕ) → (fact : Fact) → SentBefore plan host (packets_of plan) fact ↔ SentBefore plan (host + 1) 0 fact
+  sent_all host (Out end other) = (
+    λ sent. (
+      sent.0,
+      sent.1,
+      sent.2,
+      sent.3,
+      elim sent.4 [
+        | inl less ↦ inl (let more : sent.0 < host + 1 = omega arith in more)
+        | inr same ↦ inl (let e : sent.0 ≡ host = same.0 in let more : sent.0 < host + 1 = omega arith in more)
+      ],
+    ),
+    λ sent. (
+      sent.0,
+      sent.1,
+      sent.2,
+      sent.3,
+      elim sent.4 [
+        | inl less ↦ elim (near sent.0 host less) [ inl before ↦ inl before | inr same ↦ inr (same, sent.2) ]
+        | inr same ↦ absurd (let none : other < 0 = same.1 in omega arith)
+      ],
+    ),
+  )
+  sent_all host (State box other mask) = (λ sent. absurd sent, λ sent. absurd sent)
+  sent_all host (Abort box other) = (λ sent. absurd sent, λ sent. absurd sent)
 
-pub sent_in_range : (plan : Plan) (fact : Fact) → Starts plan fact → IsInRange plan fact
-sent_in_range plan (Out end packet) starts = (subst (λ (e : ℕ). e < length plan.hosts) (sym starts.2) starts.1, starts.3)
-sent_in_range plan (State box other mask) starts = starts
-sent_in_range plan (Abort box other) starts = starts
+  pub sent_none : (fact : Fact) → SentBefore plan 0 0 fact → ⊥
+  sent_none (Out end other) sent =
+      elim sent.4 [ inl less ↦ absurd (let none : sent.0 < 0 = less in omega arith) | inr same ↦ absurd (let none : other < 0 = same.1 in omega arith) ]
+  sent_none (State box other mask) sent = sent
+  sent_none (Abort box other) sent = sent
 
--- a bad fact in range is a delivery over a link
-pub bad_in_range : (plan : Plan) (fact : Fact) → IsInRange plan fact → IsBad plan fact → IsOutInRange plan fact
-bad_in_range plan (Out end packet) within bad = (within.0, within.1, (end_of_host plan bad.0, bad.2))
-bad_in_range plan (State box packet mask) within bad = within
+  -- before a host past the last stands all that is sent
+  pub sent_by_all : (fact : Fact) → SentBefore plan (length plan.hosts) 0 fact ↔ Starts plan fact
+  sent_by_all (Out end other) = (
+    λ sent. (sent.0, sent.1, sent.2, sent.3),
+    λ starts. (starts.0, starts.1, starts.2, starts.3, inl ((ends plan end starts.0).0 starts.1).0),
+  )
+  sent_by_all (State box other mask) = (λ sent. absurd sent, λ starts. absurd starts)
+  sent_by_all (Abort box other) = (λ sent. absurd sent, λ starts. absurd starts)
+
+  -- the ends of hosts rise as the hosts do
+  pub sent_precede : (host end packet : ℕ) → IsEndAt plan end (Host host) → (fact : Fact) → SentBefore plan host packet fact → Precedes fact (Out end packet)
+  sent_precede host end packet at (Out other_end other) sent =
+      let here : end ≡ host = number end host at in
+      let there : other_end ≡ sent.0 = number other_end sent.0 sent.1 in
+      inr (
+        refl,
+        elim sent.4 [
+          | inl less ↦ inl (let below : other_end < end = omega (arith, here, there, less) in below)
+          | inr same ↦ inr (there ∙ same.0 ∙ sym here, inl same.1)
+        ],
+      )
+  sent_precede host end packet at (State box other mask) sent = absurd sent
+  sent_precede host end packet at (Abort box other) sent = absurd sent
+
+  pub sent_in_range : (host packet : ℕ) (fact : Fact) → SentBefore plan host packet fact → IsInRange plan fact
+  sent_in_range host packet (Out end other) sent = (slice_get_within (places_of plan) end (Host sent.0) sent.1, sent.2)
+  sent_in_range host packet (State box other mask) sent = absurd sent
+  sent_in_range host packet (Abort box other) sent = absurd sent
+
+-- a bad fact in range has a line
+pub bad_in_range : (plan : Plan) (fact : Fact) → IsInRange plan fact → IsBad plan fact → HasLine plan fact
+bad_in_range plan (Out end packet) within bad = (within.0, within.1, (bad.0, bad.1, bad.2, bad.3))
+bad_in_range plan (State box packet mask) within bad = absurd bad
 bad_in_range plan (Abort box packet) within bad = within
-
-pub sent_precede : (plan : Plan) (host packet : ℕ) (fact : Fact) → SentBefore plan host packet fact → Precedes fact (Out host packet)
-sent_precede plan host packet fact sent = sent.1
 
 -- the bad ones among one fact more
 module _ (plan : Plan) (facts : List Fact) (i : ℕ) (d : Fact) (in' : i < length facts) where

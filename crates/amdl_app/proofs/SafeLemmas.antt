@@ -11,8 +11,8 @@ use Rattle.net_plan.specs.declared.plan.Plan.{Plan}
 use Rattle.net_plan.specs.declared.fact.Fact.{Fact}
 use Rattle.net_plan.specs.Net.{net}
 use Rattle.net_plan.specs.Follows.{IsLeast}
-use Rattle.net_plan.specs.World.{HasNoBadRun}
-use Rattle.net_plan.specs.RunLaws.{SafeNetworkRunsSafely}
+use Rattle.net_runs.specs.World.{HasNoBadRun}
+use Rattle.net_runs.specs.Laws.{SafeNetworkRunsSafely}
 use Rattle.narrow_form.specs.NarrowForm.{IsNarrow}
 use Rattle.outside.specs.Faults.{Rose}
 use Rattle.outside.specs.Files.{FileMap, file_of, LacksFile, IsLonger}
@@ -29,7 +29,7 @@ use Rattle.amdl_app.specs.Answer.{IsCommandReply, IsReply, unasked, asked}
 use Rattle.amdl_app.specs.Outcome.{whole, failed, unfinished, IsCall, no_memory, replied}
 use Rattle.amdl_app.specs.Promises.{CallSaysSafe, SafeOnly, SafeRuns, StatusIsRight, SafeIf}
 use Rattle.amdl_app.specs.Seen.{FilesSeen, Seen, WhereTold}
-use Rattle.amdl_app.proofs.AnswerLemmas.{command_is_asked}
+use Rattle.amdl_app.proofs.AnswerLemmas.{boxless, command_is_asked}
 use Rattle.amdl_app.proofs.Listing.{none_there}
 
 report_is_safe : (plan : Plan) (reply : Reply) (report : IsReport plan reply) → report.bad ≡ [] → HasNoBad plan
@@ -223,7 +223,7 @@ module _ (words : List (List ℕ)) (before after : Seen) (status : ℕ) (safe_is
       let both : Some safe.text ≡ Some text = sym (safe.there files is) ∙ file in
       let same : safe.text ≡ text = cc in
       subst (λ (t : Tree). HasNoBadRun (net t)) (one_tree safe.tree tree safe.narrow narrow (safe.layout ∙ same ∙ sym layout))
-      (runs (net safe.tree) safe.facts safe.least (λ fact there bad. safe.safe fact ((safe.least.member fact).0 there) bad))
+      (runs (net safe.tree) safe.facts (boxless safe.tree safe.narrow) safe.least (λ fact there bad. safe.safe fact ((safe.least.member fact).0 there) bad))
 
   pub safe_if : Called → SafeIf words before status
   safe_if called network asks files is text file within tree narrow layout = call_is_right network asks tree text narrow layout within files is file called

@@ -8,7 +8,7 @@ use Rattle.std.specs.Io.KnownBytes.{append_known}
 use Rattle.amdl_tree.specs.Layout.{layout_of_tree}
 use Rattle.amdl_tree.specs.declared.tree.Tree.{Tree}
 use Rattle.net_plan.specs.Net.{net}
-use Rattle.net_plan.specs.World.{HasNoBadRun}
+use Rattle.net_runs.specs.World.{HasNoBadRun}
 use Rattle.narrow_form.specs.NarrowForm.{IsNarrow}
 use Rattle.outside.specs.Faults.{Rose}
 use Rattle.outside.specs.Files.{FileMap, file_of, LacksFile}

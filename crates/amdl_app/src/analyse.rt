@@ -1,5 +1,6 @@
 //! The verb `analyse`.
 ghost use Rattle.std.specs.Prelude.{◌≡◌, ◌≤◌, IfOk};
+ghost use Rattle.net_plan.specs.Plan.{HasNoBox};
 ghost use Rattle.amdl_app.specs.Answer.{IsCommandReply};
 ghost use Rattle.amdl_app.specs.Answered.{reply_of};
 ghost use Rattle.amdl_app.specs.Command.{Analyse};
@@ -11,7 +12,7 @@ use crate::answer::{Answer, refusal_answer};
 use crate::facts::{bad_facts, derivable_facts};
 use crate::load::{Loaded, load_network, stop_answer};
 use amdl_tree::NoMemory;
-use narrow_form::read_narrow;
+use narrow_form::{narrow_has_no_box, read_narrow};
 use net_plan::{Fact, Network};
 use outside::Files;
 use plan_text::{NetworkRefusal, put_report};
@@ -36,14 +37,16 @@ pub fn analyse<F: Files>(alloc: Global, network: &str, files: &mut F) -> Result<
 fn analyse_text(alloc: Global, text: &[u8]) -> Result<Answer, NoMemory>
     ensures { IfOk result (λ answer. IsAnalysis text.now (reply_of answer)) }
 {
+    narrow_has_no_box();
     match read_narrow(alloc, text)? {
         Some(network) => report(alloc, &network),
         None => refusal_answer(alloc, NetworkRefusal::FirstForm),
     }
 }
 
-// The report of a network: status 0 where no derivable fact is bad, and else 1.
+// The report of a network without boxes: status 0 where no derivable fact is bad, and else 1.
 fn report(alloc: Global, network: &Network) -> Result<Answer, NoMemory>
+    requires { HasNoBox network.now }
     ensures { IfOk result (λ answer. IsReport network.now (reply_of answer)) }
 {
     let facts = derivable_facts(alloc, network)?;

@@ -17,7 +17,7 @@ use crate::laws::answer_is_unique;
 use crate::output::put_text;
 use amdl_tree::NoMemory;
 use narrow_form::narrow_layout_is_one_to_one;
-use net_plan::run_laws::safe_network_runs_safely;
+use net_runs::laws::safe_network_runs_safely;
 use outside::{Files, Sink, SinkFault};
 use plan_text::laws::{messages_are_not_safe, safe_is_told};
 use std::alloc::Global;

@@ -17,7 +17,7 @@ use Rattle.amdl_tree.specs.declared.tree.Tree.{Tree}
 use Rattle.net_plan.specs.declared.plan.Plan.{Plan}
 use Rattle.net_plan.specs.Net.{same_name, number_of}
 use Rattle.net_plan.specs.Plan.{size_of, sizes_of}
-use Rattle.net_plan.specs.Sound.{AreApart, IsKind, IsField, IsPattern, IsHost, IsLink, IsSound}
+use Rattle.net_plan.specs.Sound.{AreApart, IsKind, IsField, IsPattern, IsHost, IsLink, IsClass, IsBox, IsSmallClass, IsSmallBox, IsSound}
 use Rattle.narrow_form.specs.declared.parts.Parts.{Parts}
 use Rattle.narrow_form.specs.NarrowForm.{field_item, wiring_of, items_of, IsFit, IsDeclaredHost, IsNarrowPattern}
 use Rattle.narrow_form.specs.NarrowPlan.{only_kind, field_plan, fixed_by, pattern_of_equals, said, host_plan, host_number, only_link, narrow_plan}
@@ -196,23 +196,36 @@ sound_by name parts named names fit =
     let first_forbids : length (said parts parts.forbidder parts.forbidden parts.first_host) ≤ 1 = one_said (same_name parts.forbidder parts.first_host) (pattern_of_equals parts parts.forbidden) in
     let second_forbids : length (said parts parts.forbidder parts.forbidden parts.second_host) ≤ 1 = one_said (same_name parts.forbidder parts.second_host) (pattern_of_equals parts parts.forbidden) in
     record {
-      named = named;
-      kinds = All-cons IsKind (only_kind parts) [] (record { named = names.kind; values = names.values; some = fit.some_values; few = omega (arith, fit.few_values) }) (All-nil IsKind);
-      fields = All-map (IsField plan) field_plan parts.fields (λ k d below. record { named = names.fields k d below; kind = lit< tt });
-      hosts = All-cons (IsHost plan) (host_plan parts parts.first_host) (host_plan parts parts.second_host ∷ []) (sound_host name parts parts.first_host fit names.first_host)
-          (All-cons (IsHost plan) (host_plan parts parts.second_host) [] (sound_host name parts parts.second_host fit names.second_host) (All-nil (IsHost plan)));
-      links = All-cons (IsLink plan) (only_link parts) [] (record { one = host_number-below parts parts.one_end fit.one_end; two = host_number-below parts parts.other_end fit.other_end }) (All-nil (IsLink plan));
-      headers = headers_by (length parts.values) parts.fields (sizes_of plan) (sizes_narrow name parts parts.fields) fit.some_values fit.few_values fit.some_fields fit.few_fields;
-      kinds_apart = one_apart parts.kind;
-      terms_apart = rw (append-nil parts.values, field_names parts.fields) fit.terms_apart;
-      hosts_apart = two_apart parts.first_host parts.second_host fit.hosts_apart;
-      ends_apart = two_apart (host_number parts parts.one_end) (host_number parts parts.other_end) (ends_differ parts parts.one_end parts.other_end fit.one_end fit.other_end fit.ends_apart);
-      few_kinds = lit≤ tt;
-      few_links = lit≤ tt;
-      few_hosts = lit≤ tt;
-      few_sends = omega arith;
-      few_forbids = omega arith;
-      few_cells = omega arith;
+      headers = record {
+        kinds = All-cons IsKind (only_kind parts) [] (record { named = names.kind; values = names.values; some = fit.some_values; few = omega (arith, fit.few_values) }) (All-nil IsKind);
+        fields = All-map (IsField plan) field_plan parts.fields (λ k d below. record { named = names.fields k d below; kind = lit< tt });
+        headers = headers_by (length parts.values) parts.fields (sizes_of plan) (sizes_narrow name parts parts.fields) fit.some_values fit.few_values fit.some_fields fit.few_fields;
+      };
+      names = record {
+        named = named;
+        kinds = one_apart parts.kind;
+        terms = rw (append-nil parts.values, field_names parts.fields) fit.terms_apart;
+        nodes = two_apart parts.first_host parts.second_host fit.hosts_apart;
+      };
+      classes = record { classes = All-nil (IsClass plan); boxes = All-nil (IsBox plan) };
+      wiring = record {
+        hosts = All-cons (IsHost plan) (host_plan parts parts.first_host) (host_plan parts parts.second_host ∷ []) (sound_host name parts parts.first_host fit names.first_host)
+            (All-cons (IsHost plan) (host_plan parts parts.second_host) [] (sound_host name parts parts.second_host fit names.second_host) (All-nil (IsHost plan)));
+        links = All-cons (IsLink plan) (only_link parts) [] (record { one = host_number-below parts parts.one_end fit.one_end; two = host_number-below parts parts.other_end fit.other_end }) (All-nil (IsLink plan));
+        ends_apart = two_apart (host_number parts parts.one_end) (host_number parts parts.other_end) (ends_differ parts parts.one_end parts.other_end fit.one_end fit.other_end fit.ends_apart);
+      };
+      limits = record {
+        kinds = lit≤ tt;
+        classes = lit≤ tt;
+        class = All-nil (IsSmallClass plan);
+        hosts = lit≤ tt;
+        boxes = lit≤ tt;
+        box = All-nil IsSmallBox;
+        sends = omega arith;
+        forbids = omega arith;
+        links = lit≤ tt;
+        cells = (let two_ends : product (sizes_of (narrow_plan name parts)) * 2 ≤ 4194304 = omega arith in two_ends);
+      };
     }
 
 -- the plan of a tree that is well built and of parts that fit together

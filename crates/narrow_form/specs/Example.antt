@@ -40,9 +40,11 @@ safe_wire_plan = record {
   name = codes "wire";
   kinds = record { name = codes "Addr"; values = codes "a" ∷ codes "b" ∷ [] } ∷ [];
   fields = record { name = codes "src"; kind = 0 } ∷ record { name = codes "dst"; kind = 0 } ∷ [];
+  classes = [];
   hosts =
       record { name = codes "p"; sends = (Some 0 ∷ None ∷ None ∷ None ∷ None ∷ None ∷ None ∷ None ∷ []) ∷ []; forbids = [] }
       ∷ record { name = codes "q"; sends = []; forbids = (Some 1 ∷ None ∷ None ∷ None ∷ None ∷ None ∷ None ∷ None ∷ []) ∷ [] }
       ∷ [];
+  boxes = [];
   links = record { one = 0; two = 1 } ∷ [];
 }

@@ -48,6 +48,8 @@ narrow_plan name parts = record {
   name = name;
   kinds = only_kind parts ∷ [];
   fields = map field_plan parts.fields;
+  classes = [];
   hosts = host_plan parts parts.first_host ∷ host_plan parts parts.second_host ∷ [];
+  boxes = [];
   links = only_link parts ∷ [];
 }

@@ -2,7 +2,7 @@
 ghost use Rattle.amdl_tree.specs.Example.{text_of_wire};
 ghost use Rattle.net_plan.specs.Laws.{wire_plan};
 ghost use Rattle.narrow_form.specs.Example.{text_of_safe_wire, safe_wire_plan};
-ghost use Rattle.narrow_form.specs.Laws.{NarrowLayoutIsOneToOne, NetworkIsUnique, NarrowIsSound};
+ghost use Rattle.narrow_form.specs.Laws.{NarrowLayoutIsOneToOne, NetworkIsUnique, NarrowIsSound, NarrowHasNoBox};
 ghost use Rattle.narrow_form.specs.NarrowForm.{IsNetworkOf};
 
 use amdl_tree::layout_is_one_to_one;
@@ -24,6 +24,11 @@ pub fn network_is_unique()
 /// The network of a narrow tree is sound.
 pub fn narrow_is_sound()
     ensures { NarrowIsSound }
+{}
+
+/// The network of a narrow tree has no box.
+pub fn narrow_has_no_box()
+    ensures { NarrowHasNoBox }
 {}
 
 /// The text of two hosts on a wire spells a network in the narrow form.

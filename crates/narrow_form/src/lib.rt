@@ -10,8 +10,8 @@ mod parts;
 mod plan;
 
 pub use laws::{
-    narrow_is_sound, narrow_layout_is_one_to_one, network_is_unique, network_of_safe_wire,
-    network_of_wire,
+    narrow_has_no_box, narrow_is_sound, narrow_layout_is_one_to_one, network_is_unique,
+    network_of_safe_wire, network_of_wire,
 };
 pub use narrow::{narrow_network, read_narrow};
 pub use parts::Parts;

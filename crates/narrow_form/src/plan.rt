@@ -22,7 +22,9 @@ pub fn plan_of(alloc: Global, name: Name, parts: Parts) -> Result<Plan, NoMemory
         name,
         kinds,
         fields,
+        classes: List::new(alloc),
         hosts,
+        boxes: List::new(alloc),
         links,
     })
 }

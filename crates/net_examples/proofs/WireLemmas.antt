@@ -6,16 +6,18 @@ use Rattle.header_set.specs.Pattern.{fixed_at, Matches}
 use Rattle.net_plan.specs.declared.plan.LinkPlan.{LinkPlan}
 use Rattle.net_plan.specs.declared.fact.Fact.{Fact}
 use Rattle.net_plan.specs.declared.fact.Fact.TheVariants.{Out, State, Abort}
-use Rattle.net_plan.specs.declared.world.Mode.{Mode}
-use Rattle.net_plan.specs.declared.world.Mode.TheVariants.{Unordered, Ordered}
-use Rattle.net_plan.specs.declared.world.Step.TheVariants.{Send, Deliver}
-use Rattle.net_plan.specs.declared.world.Event.{Event}
-use Rattle.net_plan.specs.declared.world.Event.TheVariants.{Moved, Delivered}
-use Rattle.net_plan.specs.declared.world.World.{World}
-use Rattle.net_plan.specs.Plan.{IsLinkedBy, Joins, Sends, Forbids}
-use Rattle.net_plan.specs.World.{first_world, waiting_at, with_waiting, IsNext, Leads, Run}
+use Rattle.net_runs.specs.declared.world.Mode.{Mode}
+use Rattle.net_runs.specs.declared.world.Mode.TheVariants.{Unordered, Ordered}
+use Rattle.net_runs.specs.declared.world.Step.TheVariants.{Send, Deliver}
+use Rattle.net_runs.specs.declared.world.Event.{Event}
+use Rattle.net_runs.specs.declared.world.Event.TheVariants.{Moved, Delivered}
+use Rattle.net_runs.specs.declared.world.World.{World}
+use Rattle.net_plan.specs.declared.fact.Place.TheVariants.{Host}
+use Rattle.net_plan.specs.Plan.{Sends, Forbids}
+use Rattle.net_plan.specs.Ends.{IsEndAt, IsLinkedBy, Joins}
+use Rattle.net_runs.specs.World.{first_world, waiting_at, with_waiting, IsNext, PutsOut, Leads, Run}
 use Rattle.net_plan.specs.Laws.{wire_plan, DerivableIsSent}
-use Rattle.net_plan.specs.RunLaws.{SafeNetworkRunsSafely}
+use Rattle.net_runs.specs.Laws.{SafeNetworkRunsSafely}
 use Rattle.net_plan.specs.Fact.{IsRising}
 use Rattle.net_plan.specs.Follows.{Starts, IsLeast, IsBad, IsForbiddenDelivery}
 use Rattle.net_plan.proofs.Rising.{contained_cases, none_contained, head_contained}
@@ -105,7 +107,8 @@ sent_first packet sends = first_of_match packet 0 (one_pattern (λ pattern. Matc
 send_step : (mode : Mode) (packets : List ℕ) (packet : ℕ) → packet < 4 → field_of sizes packet 0 ≡ 0 →
     Leads wire_plan mode (world_of packets) (Send 0 packet) Moved (world_of (packets ++ packet ∷ []))
 send_step mode packets packet less has = record {
-  host_in_range = lit< tt;
+  end = 0;
+  at_host = refl;
   packet_in_range = less;
   sends = sends_first packet has;
   put_out = record { linked = λ other _. refl; unlinked = λ none. absurd (none 1 zero_to_one) };
@@ -116,7 +119,6 @@ deliver_step : (mode : Mode) (front rest : List ℕ) (packet : ℕ) → packet <
     Leads wire_plan mode (world_of (front ++ (packet ∷ rest))) (Deliver 1 packet []) (Delivered 1 packet) (world_of (front ++ rest))
 deliver_step mode front rest packet less first next = record {
   host = 1;
-  host_in_range = lit< tt;
   at_host = refl;
   packet_in_range = less;
   from = 0;
@@ -167,11 +169,22 @@ twice_delivered mode = (
   ),
 )
 
+inside : {X : Type 0} {x y : X} → Some x ≡ Some y → x ≡ y
+inside e = cc
+
+-- a host's end has the number of the host
+ends_apart : (end host : ℕ) → IsEndAt wire_plan end (Host host) → end ≡ host
+ends_apart zero host at = let same : Host 0 ≡ Host host = inside at in cc
+ends_apart (suc zero) host at = let same : Host 1 ≡ Host host = inside at in cc
+ends_apart (suc (suc end)) host at = absurd (cc)
+
 -- what the steps leave
 after_send : (mode : Mode) (packets : List ℕ) (packet : ℕ) (old new : World) (event : Event) → old ≡ world_of packets → Leads wire_plan mode old (Send 0 packet) event new →
     new ≡ world_of (packets ++ packet ∷ [])
 after_send mode packets packet old new event was leads =
-    leads.put_out.linked 1 zero_to_one ∙ ap (λ (w : World). with_waiting w 0 (waiting_at w 0 ++ packet ∷ [])) was
+    let first : leads.end ≡ 0 = ends_apart leads.end 0 leads.at_host in
+    let out : PutsOut wire_plan 0 packet old new = subst (λ (e : ℕ). PutsOut wire_plan e packet old new) first leads.put_out in
+    out.linked 1 zero_to_one ∙ ap (λ (w : World). with_waiting w 0 (waiting_at w 0 ++ packet ∷ [])) was
 
 -- a delivery to host 1 takes what waits
 record HasTaken (mode : Mode) (packets : List ℕ) (packet : ℕ) (new : World) : Type 0 where
@@ -319,42 +332,45 @@ sent = Out 0 0 ∷ Out 0 1 ∷ []
 sent_starts : (fact : Fact) → Contains sent fact → Starts safe_wire_plan fact
 sent_starts fact there =
     elim (contained_cases (Out 0 0) fact (Out 0 1 ∷ []) there) [
-      | inl same ↦ subst (Starts safe_wire_plan) same (0, lit< tt, refl, lit< tt, sends_first 0 field-0-0)
+      | inl same ↦ subst (Starts safe_wire_plan) same (0, refl, lit< tt, sends_first 0 field-0-0)
       | inr later ↦ elim (contained_cases (Out 0 1) fact [] later) [
-        | inl same ↦ subst (Starts safe_wire_plan) same (0, lit< tt, refl, lit< tt, sends_first 1 field-1-0)
+        | inl same ↦ subst (Starts safe_wire_plan) same (0, refl, lit< tt, sends_first 1 field-1-0)
         | inr none ↦ absurd (none_contained fact none)
       ]
     ]
 
 starts_sent : (fact : Fact) → Starts safe_wire_plan fact → Contains sent fact
-starts_sent (Out end packet) (zero, in', is, less, sends) =
+starts_sent (Out end packet) (zero, at, less, sends) =
+    let is : end ≡ 0 = ends_apart end 0 at in
     elim (below_two packet less (sent_first packet sends)) [
       | inl same ↦ (0, lit< tt, ap (λ (p : ℕ). Out 0 p) (sym same) ∙ ap (λ (e : ℕ). Out e packet) (sym is))
       | inr same ↦ (1, lit< tt, ap (λ (p : ℕ). Out 0 p) (sym same) ∙ ap (λ (e : ℕ). Out e packet) (sym is))
     ]
-starts_sent (Out end packet) (suc zero, in', is, less, sends) = let none : sends.0 < 0 = sends.2 in absurd (omega arith)
-starts_sent (Out end packet) (suc (suc host), in', is, less, sends) = absurd (omega arith)
+starts_sent (Out end packet) (suc zero, at, less, sends) = let none : sends.0 < 0 = sends.2 in absurd (omega arith)
+starts_sent (Out zero packet) (suc (suc host), at, less, sends) = absurd (let is : 0 ≡ suc (suc host) = ends_apart 0 (suc (suc host)) at in omega (arith, is))
+starts_sent (Out (suc zero) packet) (suc (suc host), at, less, sends) = absurd (let is : 1 ≡ suc (suc host) = ends_apart 1 (suc (suc host)) at in omega (arith, is))
+starts_sent (Out (suc (suc end)) packet) (suc (suc host), at, less, sends) = absurd (cc)
 starts_sent (State box packet mask) starts = absurd starts
 starts_sent (Abort box packet) starts = absurd starts
 
 sent_rising : IsRising sent
 sent_rising zero zero d less in' = absurd (omega arith)
-sent_rising zero (suc zero) d less in' = inr (refl, lit< tt)
+sent_rising zero (suc zero) d less in' = inr (refl, inr (refl, inl (lit< tt)))
 sent_rising zero (suc (suc j)) d less in' = absurd (omega arith)
 sent_rising (suc i) j d less in' = absurd (omega arith)
 
 sent_least : DerivableIsSent → IsLeast safe_wire_plan sent
 sent_least law = record {
   rising = sent_rising;
-  member = λ fact. (λ there. (law safe_wire_plan fact).1 (sent_starts fact there), λ derivable. starts_sent fact ((law safe_wire_plan fact).0 derivable));
+  member = λ fact. (λ there. (law safe_wire_plan fact refl).1 (sent_starts fact there), λ derivable. starts_sent fact ((law safe_wire_plan fact refl).0 derivable));
 }
 
 sent_good_packet : (packet : ℕ) → field_of sizes packet 0 ≡ 0 → (fact : Fact) → Out 0 packet ≡ fact → IsBad safe_wire_plan fact → ⊥
 sent_good_packet packet has fact same bad = good (subst (IsBad safe_wire_plan) (sym same) bad)
   where
     good : IsForbiddenDelivery safe_wire_plan 0 packet → ⊥
-    good (host, in', linked, forbids) =
-        let one : host ≡ 1 = elim (linked_to 0 host linked) [ inl here ↦ here.1 | inr here ↦ absurd (let no : ◌≡◌ {A = ℕ} 0 1 = here.0 in omega arith) ] in
+    good (host, other, linked, at, forbids) =
+        let one : host ≡ 1 = sym (ends_apart other host at) ∙ elim (linked_to 0 other linked) [ inl here ↦ here.1 | inr here ↦ absurd (let no : ◌≡◌ {A = ℕ} 0 1 = here.0 in omega arith) ] in
         let here : Forbids safe_wire_plan 1 packet = subst (λ (h : ℕ). Forbids safe_wire_plan h packet) one forbids in
         let field : field_of sizes packet 0 ≡ 1 = first_of_match packet 1 (one_pattern (λ pattern. Matches sizes pattern packet) (first_is 1) here) in
         let no : ◌≡◌ {A = ℕ} 0 1 = sym has ∙ field in absurd (omega arith)
@@ -370,4 +386,4 @@ sent_good fact there bad =
     ]
 
 pub safe_wire_runs_safely : SafeNetworkRunsSafely → DerivableIsSent → SafeWireRunsSafely
-safe_wire_runs_safely runs law = runs safe_wire_plan sent (sent_least law) sent_good
+safe_wire_runs_safely runs law = runs safe_wire_plan sent refl (sent_least law) sent_good

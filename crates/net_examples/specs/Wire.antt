@@ -1,14 +1,14 @@
 -- Runs on the wire network, in which host 0 may send the packets 0 and 1, and host 1 forbids packet 1.
 use Rattle.std.specs.Prelude.{ℕ, List, [], ◌∷◌, ◌++◌, Some, None, codes}
 use Rattle.net_plan.specs.declared.plan.Plan.{Plan}
-use Rattle.net_plan.specs.declared.world.Mode.{Mode}
-use Rattle.net_plan.specs.declared.world.Mode.TheVariants.{Unordered, Ordered}
-use Rattle.net_plan.specs.declared.world.Step.{Step}
-use Rattle.net_plan.specs.declared.world.Step.TheVariants.{Send, Deliver}
-use Rattle.net_plan.specs.declared.world.Event.{Event}
-use Rattle.net_plan.specs.declared.world.Event.TheVariants.{Moved, Delivered}
-use Rattle.net_plan.specs.declared.world.World.{World}
-use Rattle.net_plan.specs.World.{first_world, Leads, Run, IsBadEvent, HasNoBadRun}
+use Rattle.net_runs.specs.declared.world.Mode.{Mode}
+use Rattle.net_runs.specs.declared.world.Mode.TheVariants.{Unordered, Ordered}
+use Rattle.net_runs.specs.declared.world.Step.{Step}
+use Rattle.net_runs.specs.declared.world.Step.TheVariants.{Send, Deliver}
+use Rattle.net_runs.specs.declared.world.Event.{Event}
+use Rattle.net_runs.specs.declared.world.Event.TheVariants.{Moved, Delivered}
+use Rattle.net_runs.specs.declared.world.World.{World}
+use Rattle.net_runs.specs.World.{first_world, Leads, Run, IsBadEvent, HasNoBadRun}
 use Rattle.net_plan.specs.Laws.{wire_plan}
 
 -- host 0 sends packet 0 twice, and both copies are delivered at the end of host 1
@@ -57,10 +57,12 @@ safe_wire_plan = record {
   name = codes "wire";
   kinds = record { name = codes "Addr"; values = codes "a" ∷ codes "b" ∷ [] } ∷ [];
   fields = record { name = codes "src"; kind = 0 } ∷ record { name = codes "dst"; kind = 0 } ∷ [];
+  classes = [];
   hosts =
       record { name = codes "p"; sends = (Some 0 ∷ None ∷ None ∷ None ∷ None ∷ None ∷ None ∷ None ∷ []) ∷ []; forbids = [] }
       ∷ record { name = codes "q"; sends = []; forbids = (Some 1 ∷ None ∷ None ∷ None ∷ None ∷ None ∷ None ∷ None ∷ []) ∷ [] }
       ∷ [];
+  boxes = [];
   links = record { one = 0; two = 1 } ∷ [];
 }
 

@@ -1,10 +1,12 @@
-//! Runs of two hosts on a wire, worked out by hand. Each is the contract of a function that does nothing.
+//! Runs of two hosts on a wire, and the ends and cells of a network with boxes, worked out by hand. Each is the contract of
+//! a function that does nothing.
 #![tactic(auto)]
 
 ghost use Rattle.net_examples.specs.Wire.{TwiceDelivered, NoThirdDelivery, BadRunByHand, NoOrderedBadRun, NothingElseEnabled, SafeWireRunsSafely};
+ghost use Rattle.net_examples.specs.Boxes.{EndsByHand, PartnersByHand, NamesByHand, CellsByHand, BadByHand};
 
 use net_plan::laws::derivable_is_sent;
-use net_plan::run_laws::safe_network_runs_safely;
+use net_runs::laws::safe_network_runs_safely;
 
 /// Two sends of one packet and two deliveries are a run in either mode.
 pub fn twice_delivered()
@@ -38,3 +40,28 @@ pub fn safe_wire_runs_safely()
     derivable_is_sent();
     safe_network_runs_safely();
 }
+
+/// The ends of a network with two boxes.
+pub fn ends_by_hand()
+    ensures { EndsByHand }
+{}
+
+/// Their partners, of which two ends have none.
+pub fn partners_by_hand()
+    ensures { PartnersByHand }
+{}
+
+/// Ends by their names.
+pub fn names_by_hand()
+    ensures { NamesByHand }
+{}
+
+/// All facts in range, in file order, and their cells.
+pub fn cells_by_hand()
+    ensures { CellsByHand }
+{}
+
+/// Facts that are bad, and facts that are not.
+pub fn bad_by_hand()
+    ensures { BadByHand }
+{}

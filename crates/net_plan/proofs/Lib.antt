@@ -1,3 +1,8 @@
-mod Linked
+mod CellLemmas
+pub mod EndLemmas
+pub mod Linked
+mod NameLemmas
+mod PartnerLemmas
 pub mod Rising
-mod RunLemmas
+mod StateLemmas
+mod TableLemmas

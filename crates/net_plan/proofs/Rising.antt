@@ -3,40 +3,27 @@ use Rattle.std.proofs.Common.{◌≡◌, ℕ, suc, zero, ◌<◌, List, [], ◌�
 use Rattle.std.specs.List.{All, AllPairs, Contains}
 use Rattle.std.proofs.lemmas.List.Elements.{All-contains, Contains-append_left, Contains-append_right, Contains-append_cases, Contains-push}
 use Rattle.net_plan.specs.declared.fact.Fact.{Fact}
-use Rattle.net_plan.specs.declared.fact.Fact.TheVariants.{Out, State, Abort}
-use Rattle.net_plan.specs.Fact.{IsPairBelow, Precedes, IsRising}
+use Rattle.net_plan.specs.Fact.{numbers_of, IsBelow, Precedes, IsRising}
 
-pair_not_below : (a b : ℕ) → IsPairBelow a b a b → ⊥
-pair_not_below a b (inl less) = absurd (omega arith)
-pair_not_below a b (inr same) = let less : b < b = same.1 in absurd (omega arith)
+below_itself : (xs : List ℕ) → IsBelow xs xs → ⊥
+below_itself [] below = below
+below_itself (x ∷ xs) (inl less) = absurd (omega arith)
+below_itself (x ∷ xs) (inr same) = below_itself xs same.1
 
-pair_one_way : (a b c d : ℕ) → IsPairBelow a b c d → IsPairBelow c d a b → ⊥
-pair_one_way a b c d (inl less) (inl more) = absurd (omega arith)
-pair_one_way a b c d (inl less) (inr same) = let e : c ≡ a = same.0 in absurd (omega arith)
-pair_one_way a b c d (inr same) (inl more) = let e : a ≡ c = same.0 in absurd (omega arith)
-pair_one_way a b c d (inr same) (inr other) = let less : b < d = same.1 in let more : d < b = other.1 in absurd (omega arith)
+below_one_way : (xs ys : List ℕ) → IsBelow xs ys → IsBelow ys xs → ⊥
+below_one_way [] ys one two = one
+below_one_way (x ∷ xs) [] one two = one
+below_one_way (x ∷ xs) (y ∷ ys) (inl less) (inl more) = absurd (omega arith)
+below_one_way (x ∷ xs) (y ∷ ys) (inl less) (inr same) = let e : y ≡ x = same.0 in absurd (omega arith)
+below_one_way (x ∷ xs) (y ∷ ys) (inr same) (inl more) = let e : x ≡ y = same.0 in absurd (omega arith)
+below_one_way (x ∷ xs) (y ∷ ys) (inr same) (inr back) = below_one_way xs ys same.1 back.1
 
--- no fact precedes itself
+-- no fact precedes itself, and no two precede one another
 not_before_itself : (fact : Fact) → Precedes fact fact → ⊥
-not_before_itself (Out end packet) before = pair_not_below end packet before
-not_before_itself (State box packet mask) (inl less) = absurd (omega arith)
-not_before_itself (State box packet mask) (inr same) = pair_not_below packet mask same.1
-not_before_itself (Abort box packet) before = pair_not_below box packet before
+not_before_itself fact before = below_itself (numbers_of fact) before
 
--- no two facts precede one another
 one_way : (one two : Fact) → Precedes one two → Precedes two one → ⊥
-one_way (Out end packet) (Out other_end other) before after = pair_one_way end packet other_end other before after
-one_way (Out end packet) (State box other mask) before after = after
-one_way (Out end packet) (Abort box other) before after = after
-one_way (State box packet mask) (Out end other) before after = before
-one_way (State box packet mask) (State other_box other other_mask) (inl less) (inl more) = absurd (omega arith)
-one_way (State box packet mask) (State other_box other other_mask) (inl less) (inr same) = let e : other_box ≡ box = same.0 in absurd (omega arith)
-one_way (State box packet mask) (State other_box other other_mask) (inr same) (inl more) = let e : box ≡ other_box = same.0 in absurd (omega arith)
-one_way (State box packet mask) (State other_box other other_mask) (inr same) (inr back) = pair_one_way packet mask other other_mask same.1 back.1
-one_way (State box packet mask) (Abort other_box other) before after = after
-one_way (Abort box packet) (Out end other) before after = before
-one_way (Abort box packet) (State other_box other mask) before after = before
-one_way (Abort box packet) (Abort other_box other) before after = pair_one_way box packet other_box other before after
+one_way one two before after = below_one_way (numbers_of one) (numbers_of two) before after
 
 module _ {X : Type 0} where
   pub head_contained : (x : X) (xs : List X) → Contains (x ∷ xs) x

@@ -1,25 +1,23 @@
 -- The file order of facts.
-use Rattle.std.specs.Prelude.{◌≡◌, ℕ, ◌<◌, ◌⊎◌, ◌↔◌, List}
+use Rattle.std.specs.Prelude.{◌≡◌, ℕ, ◌<◌, ◌⊎◌, ◌↔◌, List, [], ◌∷◌}
 use Rattle.std.specs.List.{AllPairs, Contains}
 use Rattle.net_plan.specs.declared.fact.Fact.{Fact}
 use Rattle.net_plan.specs.declared.fact.Fact.TheVariants.{Out, State, Abort}
 
--- one pair of numbers before another
-abbrev pub IsPairBelow : ℕ → ℕ → ℕ → ℕ → Type 0
-IsPairBelow a b c d = (a < c) ⊎ ((a ≡ c) × (b < d))
+-- the kind of a fact, `Out` before `State` before `Abort`, and then its numbers in their order
+abbrev pub numbers_of : Fact → List ℕ
+numbers_of (Out end packet) = 0 ∷ end ∷ packet ∷ []
+numbers_of (State box packet mask) = 1 ∷ box ∷ packet ∷ mask ∷ []
+numbers_of (Abort box packet) = 2 ∷ box ∷ packet ∷ []
+
+-- the first numbers that differ are less in the first list
+abbrev pub IsBelow : List ℕ → List ℕ → Type 0
+IsBelow (x ∷ xs) (y ∷ ys) = (x < y) ⊎ ((x ≡ y) × IsBelow xs ys)
+IsBelow _ _ = ⊥
 
 -- all `Out` by end and packet, then all `State` by box, packet and mask, then all `Abort` by box and packet
 abbrev pub Precedes : Fact → Fact → Type 0
-Precedes (Out end packet) (Out other_end other) = IsPairBelow end packet other_end other
-Precedes (Out _ _) (State _ _ _) = Unit {0}
-Precedes (Out _ _) (Abort _ _) = Unit {0}
-Precedes (State _ _ _) (Out _ _) = ⊥
-Precedes (State box packet mask) (State other_box other other_mask) =
-    (box < other_box) ⊎ ((box ≡ other_box) × IsPairBelow packet mask other other_mask)
-Precedes (State _ _ _) (Abort _ _) = Unit {0}
-Precedes (Abort _ _) (Out _ _) = ⊥
-Precedes (Abort _ _) (State _ _ _) = ⊥
-Precedes (Abort box packet) (Abort other_box other) = IsPairBelow box packet other_box other
+Precedes one two = IsBelow (numbers_of one) (numbers_of two)
 
 -- each fact of the list precedes each later one
 abbrev pub IsRising : List Fact → Type 0

@@ -1,9 +1,9 @@
-pub mod Covers
+pub mod Cells
+pub mod Ends
 pub mod Fact
 pub mod Follows
+pub mod Kept
 pub mod Laws
 pub mod Net
 pub mod Plan
 pub mod Sound
-pub mod RunLaws
-pub mod World

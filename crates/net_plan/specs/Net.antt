@@ -1,4 +1,4 @@
--- The network that a list of items spells.
+-- The network that a list of items without classes and boxes spells.
 use Rattle.std.specs.Prelude.{ℕ, ◌+◌, Bool, List, [], ◌∷◌, Option, Some, None, map, fold, nat_eq, slice_set, slice_index_or, if◌then◌else◌}
 use Rattle.std.specs.List.{filter_map}
 use Rattle.std.specs.Cmp.Lexicographic.{pointwise}
@@ -137,12 +137,14 @@ link_of_item hosts (Forbid host pattern) = None
 abbrev pub links_of : List Item → List LinkPlan
 links_of items = filter_map (link_of_item (host_names items)) items
 
--- the network of a tree
+-- the network of a tree without classes and boxes
 abbrev pub net : Tree → Plan
 net tree = record {
   name = tree.name;
   kinds = kinds_of tree.items;
   fields = fields_of tree.items;
+  classes = [];
   hosts = hosts_of tree.items;
+  boxes = [];
   links = links_of tree.items;
 }

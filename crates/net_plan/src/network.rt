@@ -1,15 +1,21 @@
-ghost use Rattle.std.specs.Prelude.{◌≡◌, ◌≢◌, ℕ, ◌+◌, ◌<◌, ◌≤◌, ◌↔◌, [], List, length, slice_index_or, IsTrue, IfOk, IsOk, All, MatchOption};
-ghost use Rattle.net_plan.specs.Plan.{sizes_of, packets_of, boxes_of, ends_of, kind_at, field_at, host_at, end_of_host, IsEndAt, IsEndNamed, IsHostNamed, IsLinked, Sends, Forbids};
-ghost use Rattle.net_plan.specs.Plan.{IsLinkedBy, Joins, far_end_of, partner_among, partner_of};
-ghost use Rattle.net_plan.specs.declared.plan.HostPlan.{HostPlan};
+ghost use Rattle.std.specs.Prelude.{◌≡◌, ℕ, ◌<◌, ◌≤◌, ◌↔◌, [], length, slice_index_or, IsTrue, IfOk};
+ghost use Rattle.net_plan.specs.Plan.{sizes_of, packets_of, boxes_of, kind_at, field_at, host_at, box_at, class_of, ports_of, masks_of, port_name_at, Sends, Forbids};
+ghost use Rattle.net_plan.specs.Cells.{IsInRange};
 ghost use Rattle.header_set.specs.Headers.{product};
 ghost use Rattle.header_set.specs.Pattern.{Matches};
 ghost use Rattle.std.specs.List.{Any};
 ghost use Rattle.net_plan.specs.Sound.{IsSound};
-ghost use Rattle.net_plan.specs.Follows.{IsBad, IsForbiddenDelivery, IsInRange};
+ghost use Rattle.net_plan.specs.Follows.{IsBad, IsForbiddenDelivery};
+ghost use Rattle.net_plan.specs.Ends.{ends_of, IsEndAt};
+
+mod finding;
+mod numbering;
 
 use crate::fact::{Fact, Place};
-use crate::plan::{FieldPlan, HostPlan, KindPlan, LinkPlan, Plan};
+use crate::plan::{BoxPlan, ClassPlan, FieldPlan, HostPlan, KindPlan, Plan};
+use crate::tables::{
+    first_ends_of, first_states_of, headers_of, mask_count, partners_of, places_of,
+};
 use amdl_tree::{List, Name, NoMemory};
 use header_set::{Headers, Pattern};
 use std::alloc::Global;
@@ -17,34 +23,57 @@ use std::marker::Model;
 
 /// A network whose plan is sound. Contracts see it as its plan.
 ///
-/// No accessor takes memory. Those that answer a number or a name by a number take constant time.
+/// No accessor takes memory. Those that answer a number, a name or a place by a number take constant time where their
+/// docs say nothing else.
 #[derive(Debug, Drop)]
 pub struct Network {
     plan: Plan,
     headers: Headers,
+    // the place of each end
+    places: List<Place>,
+    // the other end of the link of each end
+    partners: List<Option<u32>>,
+    // the end of port 0 of each box
+    first_ends: List<u32>,
+    // the first `State` cell of each box, and behind them the first `Abort` cell
+    first_states: List<u32>,
 }
 
 impl Model for Network {
-    ghost use Rattle.std.specs.Prelude.{◌≡◌};
     ghost use Rattle.net_plan.specs.declared.plan.Plan.{Plan};
-    ghost use Rattle.net_plan.specs.Plan.{sizes_of};
-    ghost use Rattle.net_plan.specs.Sound.{IsSound};
+    ghost use Rattle.net_plan.specs.Kept.{IsKept};
+    ghost use Rattle.net_plan.specs.contracts.act.Act as act;
+    ghost use Rattle.std.specs.Coded.{codes};
 
     ghost Value = { Plan };
 
+    ghost coded = { Prim.hlevel (codes, act.the_row.coded) };
+
     ghost view = { λ network. network.plan };
 
-    ghost invariant = { λ network. IsSound network.plan × (network.headers ≡ sizes_of network.plan) };
+    ghost invariant = { λ network. IsKept network.plan network.headers network.places network.partners network.first_ends network.first_states };
 }
 
 impl Network {
-    /// The network of a sound plan. Linear in the fields.
-    pub fn new(_alloc: Global, plan: Plan) -> Result<Network, NoMemory>
+    /// The network of a sound plan. Linear in the fields, the ends, the links and the boxes.
+    pub fn new(alloc: Global, plan: Plan) -> Result<Network, NoMemory>
         requires { IsSound plan }
         ensures { IfOk result (λ network. network ≡ plan) }
     {
         let headers = headers_of(&plan);
-        Ok(Network { plan, headers })
+        let places = places_of(alloc, &plan)?;
+        let ends = places.as_slice().len() as u32;
+        let partners = partners_of(alloc, &plan, ends)?;
+        let first_ends = first_ends_of(alloc, &plan)?;
+        let first_states = first_states_of(alloc, &plan, headers.count(), ends)?;
+        Ok(Network {
+            plan,
+            headers,
+            places,
+            partners,
+            first_ends,
+            first_states,
+        })
     }
 
     /// The soundness of the plan, for a caller that only has the network.
@@ -76,24 +105,19 @@ impl Network {
         plan.hosts.as_slice().len() as u32
     }
 
-    /// The number of boxes. There is none yet.
+    /// The number of boxes, at most 256.
     pub fn boxes(&self) -> u32
         ensures { result ≡ boxes_of self.now }
     {
-        0
-    }
-
-    /// The number of ends.
-    pub fn ends(&self) -> u32
-        ensures { result ≡ ends_of self.now }
-    {
-        self.hosts()
+        let plan = &self.plan;
+        plan.boxes.as_slice().len() as u32
     }
 
     /// The number of links.
     pub fn links(&self) -> u32
         ensures { result ≡ length self.now.links }
     {
+        self.sound();
         let plan = &self.plan;
         plan.links.as_slice().len() as u32
     }
@@ -106,12 +130,46 @@ impl Network {
         plan.kinds.as_slice().len() as u32
     }
 
+    /// The number of classes, at most 64.
+    pub fn classes(&self) -> u32
+        ensures { result ≡ length self.now.classes }
+    {
+        let plan = &self.plan;
+        plan.classes.as_slice().len() as u32
+    }
+
     /// The name of a host.
     pub fn host_name(&self, host: u32) -> Name
         requires { host < length self.now.hosts }
         ensures { result ≡ (host_at self.now host).name }
     {
         self.host(host).name
+    }
+
+    /// The name of a box.
+    pub fn box_name(&self, b: u32) -> Name
+        requires { b < boxes_of self.now }
+        ensures { result ≡ (box_at self.now b).name }
+    {
+        self.boxed(b).name
+    }
+
+    /// The number of ports of a box, at most 32.
+    pub fn ports(&self, b: u32) -> u32
+        requires { b < boxes_of self.now }
+        ensures ports { result ≡ ports_of self.now (box_at self.now b) }
+        ensures few { result ≤ 32 }
+    {
+        self.class(b).ports.as_slice().len() as u32
+    }
+
+    /// The name of a port of a box.
+    pub fn port_name(&self, b: u32, port: u32) -> Name
+        requires boxed { b < boxes_of self.now }
+        requires port { port < ports_of self.now (box_at self.now b) }
+        ensures { result ≡ port_name_at self.now (box_at self.now b) port }
+    {
+        self.class(b).ports.as_slice()[port as usize]
     }
 
     /// The name of field k.
@@ -148,30 +206,6 @@ impl Network {
         self.kind(kind).values.as_slice()[x as usize]
     }
 
-    /// The number of the end of a host.
-    pub fn end_of_host(&self, host: u32) -> u32
-        requires { host < length self.now.hosts }
-        ensures { result ≡ end_of_host self.now host }
-    {
-        host
-    }
-
-    /// Where an end is.
-    pub fn place(&self, end: u32) -> Place
-        requires { end < ends_of self.now }
-        ensures { IsEndAt self.now end result }
-    {
-        Place::Host(end)
-    }
-
-    /// The other end of the link of an end. None comes exactly where the end has no link. Linear in the links.
-    pub fn partner(&self, end: u32) -> Option<u32>
-        ensures value { result ≡ partner_of self.now end }
-        ensures linked { MatchOption result ((other : ℕ) → IsLinked self.now end other → ⊥) (IsLinked self.now end) }
-    {
-        other_end(self.plan.links.as_slice(), end)
-    }
-
     /// Whether a host may send a packet. Linear in the patterns of the host.
     pub fn sends(&self, host: u32, packet: u32) -> bool
         requires host { host < length self.now.hosts }
@@ -191,7 +225,7 @@ impl Network {
     }
 
     /// Whether a fact in range is bad: an abort, or a packet put out at an end that is linked to a host which forbids it.
-    /// Linear in the links and in the patterns of that host.
+    /// Linear in the patterns of that host.
     pub fn bad(&self, fact: Fact) -> bool
         requires { IsInRange self.now fact }
         ensures { IsTrue result ↔ IsBad self.now fact }
@@ -203,35 +237,28 @@ impl Network {
         }
     }
 
-    // Whether the end is linked to a host that forbids the packet.
+    // Whether the end is linked to the end of a host that forbids the packet.
     fn bad_delivery(&self, end: u32, packet: u32) -> bool
-        requires { packet < packets_of self.now }
+        requires end { end < ends_of self.now }
+        requires packet { packet < packets_of self.now }
         ensures { IsTrue result ↔ IsForbiddenDelivery self.now end packet }
     {
         self.sound();
         match self.partner(end) {
-            Some(other) => self.forbidden(other, packet),
+            Some(other) => self.forbidden_at(other, packet),
             None => false,
         }
     }
 
-    /// The number of the host with this name. None comes exactly where there is none. Linear in the hosts.
-    pub fn find_host(&self, name: Name) -> Option<u32>
-        ensures { MatchOption result ((host : ℕ) → IsHostNamed self.now name host → ⊥) (IsHostNamed self.now name) }
+    // Whether the end is that of a host which forbids the packet.
+    fn forbidden_at(&self, end: u32, packet: u32) -> bool
+        requires end { end < ends_of self.now }
+        requires packet { packet < packets_of self.now }
+        ensures { IsTrue result ↔ ((host : ℕ) × IsEndAt self.now end (Place.Host host) × Forbids self.now host packet) }
     {
-        let plan = &self.plan;
-        let found = place_of_host(plan.hosts.as_slice(), name)?;
-        Some(found as u32)
-    }
-
-    /// The number of the end with this name: a host's has the name of the host and no port, a port's has the names of
-    /// its box and its own. None comes exactly where no such end is declared. Linear in the hosts.
-    pub fn find_end(&self, host_or_box: Name, port: Option<Name>) -> Option<u32>
-        ensures { MatchOption result ((end : ℕ) → IsEndNamed self.now host_or_box port end → ⊥) (IsEndNamed self.now host_or_box port) }
-    {
-        match port {
-            None => self.find_host(host_or_box),
-            Some(_) => None,
+        match self.place(end) {
+            Place::Host(host) => self.forbidden(host, packet),
+            Place::Port(..) => false,
         }
     }
 
@@ -257,6 +284,34 @@ impl Network {
     {
         &self.plan.kinds.as_slice()[kind as usize]
     }
+
+    fn boxed(&self, b: u32) -> &BoxPlan
+        requires { b < boxes_of self.now }
+        ensures boxed { result.now ≡ box_at self.now b }
+        ensures class { result.now.class < length self.now.classes }
+    {
+        &self.plan.boxes.as_slice()[b as usize]
+    }
+
+    // The class of a box.
+    fn class(&self, b: u32) -> &ClassPlan
+        requires { b < boxes_of self.now }
+        ensures class { result.now ≡ class_of self.now (box_at self.now b) }
+        ensures few_ports { length result.now.ports ≤ 32 }
+        ensures few_queries { length result.now.queries ≤ 12 }
+    {
+        let class = self.boxed(b).class;
+        &self.plan.classes.as_slice()[class as usize]
+    }
+
+    // How many masks a box has.
+    fn masks(&self, b: u32) -> u32
+        requires { b < boxes_of self.now }
+        ensures masks { result ≡ masks_of self.now (box_at self.now b) }
+        ensures few { result ≤ 4096 }
+    {
+        mask_count(self.class(b))
+    }
 }
 
 // Whether one of the patterns matches the packet.
@@ -267,69 +322,4 @@ fn matches_one(headers: &Headers, patterns: &[Pattern], packet: u32) -> bool
     patterns
         .iter()
         .any(|pattern| pattern.matches(headers, packet))
-}
-
-// The other end of the first of the links that has this end.
-fn other_end(links: &[LinkPlan], end: u32) -> Option<u32>
-    ensures value { result ≡ partner_among links.now end }
-    ensures linked { MatchOption result ((other : ℕ) → IsLinkedBy links.now end other → ⊥) (IsLinkedBy links.now end) }
-{
-    for link in links {
-        if let Some(other) = far_end(*link, end) {
-            return Some(other);
-        }
-    }
-    None
-}
-
-// The end of the link that isn't this one, where this one is an end of it.
-fn far_end(link: LinkPlan, end: u32) -> Option<u32>
-    ensures value { result ≡ far_end_of link end }
-    ensures joined { MatchOption result ((other : ℕ) → Joins link end other → ⊥) (Joins link end) }
-{
-    if link.one == end {
-        Some(link.two)
-    } else if link.two == end {
-        Some(link.one)
-    } else {
-        None
-    }
-}
-
-// The place of the first of the hosts that has this name.
-fn place_of_host(hosts: &[HostPlan], name: Name) -> Option<usize>
-    ensures { MatchOption result (All (λ host. host.name ≢ name) hosts.now) (λ place. (place < length hosts.now) × ((d : HostPlan) → (slice_index_or hosts.now place d).name ≡ name)) }
-{
-    for (place, host) in hosts.iter().enumerate() {
-        if host.name == name {
-            return Some(place);
-        }
-    }
-    None
-}
-
-// The headers of the fields of a sound plan.
-fn headers_of(plan: &Plan) -> Headers
-    requires { IsSound plan.now }
-    ensures { result ≡ sizes_of plan.now }
-{
-    let fields = plan.fields.as_slice();
-    let mut sizes = [0u32; 8];
-    for (k, field) in fields.iter().enumerate() {
-        sizes[k] = values_of(plan, field.kind);
-    }
-    match Headers::new(&sizes[..fields.len()]) {
-        Ok(headers) => headers,
-        Err(_) => unreachable!(),
-    }
-}
-
-// The number of values of a type of a sound plan.
-fn values_of(plan: &Plan, kind: u32) -> u32
-    requires sound { IsSound plan.now }
-    requires kind { kind < length plan.now.kinds }
-    ensures { result ≡ length (kind_at plan.now kind).values }
-{
-    let kinds = plan.kinds.as_slice();
-    kinds[kind as usize].values.as_slice().len() as u32
 }

@@ -1,12 +1,15 @@
 -- The lines that are printed of a network, without their end of line, and the report that is made of them.
-use Rattle.std.specs.Prelude.{ℕ, ◌-◌, ◌<◌, Bool, true, false, List, [], ◌∷◌, ◌++◌, length, map, take, codes, decimal, count_by, nat_lt, if◌then◌else◌, slice_index_or, unwrap_or}
+use Rattle.std.specs.Prelude.{ℕ, ◌-◌, ◌<◌, Bool, true, false, List, [], ◌∷◌, ◌++◌, length, map, take, codes, decimal, count_by, nat_lt, if◌then◌else◌, slice_get, slice_index_or, Option, Some, None}
 use Rattle.std.specs.List.{flat_map, range_with_len}
 use Rattle.header_set.specs.Headers.{field_of}
 use Rattle.amdl_tree.specs.Layout.{line, listed}
 use Rattle.net_plan.specs.declared.plan.Plan.{Plan}
 use Rattle.net_plan.specs.declared.fact.Fact.{Fact}
 use Rattle.net_plan.specs.declared.fact.Fact.TheVariants.{Out, State, Abort}
-use Rattle.net_plan.specs.Plan.{kind_at, field_at, host_at, sizes_of, packets_of, boxes_of, ends_of, partner_of, IsLinked}
+use Rattle.net_plan.specs.declared.fact.Place.{Place}
+use Rattle.net_plan.specs.declared.fact.Place.TheVariants.{Host, Port}
+use Rattle.net_plan.specs.Plan.{kind_at, field_at, host_at, box_at, port_name_at, sizes_of, packets_of, boxes_of}
+use Rattle.net_plan.specs.Ends.{places_of, ends_of, partner_of, IsLinked, IsEndAt}
 
 -- the network: its name, and how many hosts, boxes and packets it has
 abbrev pub network_line : Plan → List ℕ
@@ -49,13 +52,22 @@ facts_line facts =
     ++ codes " state " ++ decimal (count_of_states facts)
     ++ codes " abort " ++ decimal (count_of_aborts facts)
 
--- an end has the name of its host, whose number it has
-abbrev pub text_of_end : Plan → ℕ → List ℕ
-text_of_end plan end = (host_at plan end).name
+-- a host's place is written by the name of the host, a port's by the names of its box and its own: `HOST` or `BOX.PORT`
+abbrev pub text_of_place : Plan → Place → List ℕ
+text_of_place plan (Host host) = (host_at plan host).name
+text_of_place plan (Port box port) = (box_at plan box).name ++ codes "." ++ port_name_at plan (box_at plan box) port
 
--- the name of a box; a plan has no box yet, so there is no text
+abbrev pub text_at : Plan → Option Place → List ℕ
+text_at plan None = []
+text_at plan (Some place) = text_of_place plan place
+
+-- an end is written as its place; where there is no such end, there is no text
+abbrev pub text_of_end : Plan → ℕ → List ℕ
+text_of_end plan end = text_at plan (slice_get (places_of plan) end)
+
+-- the name of a box
 abbrev pub text_of_box : Plan → ℕ → List ℕ
-text_of_box plan box = []
+text_of_box plan box = (box_at plan box).name
 
 -- the name of the value that a packet has in field k
 abbrev pub value_name_at : Plan → ℕ → ℕ → List ℕ
@@ -77,24 +89,43 @@ text_of_fact plan (State box packet mask) =
     codes "state " ++ text_of_box plan box ++ codes " " ++ decimal packet ++ codes " " ++ decimal mask
 text_of_fact plan (Abort box packet) = codes "abort " ++ text_of_box plan box ++ codes " " ++ decimal packet
 
+-- a delivery up to the end at which the packet was put out
+abbrev pub delivery_start : Plan → ℕ → ℕ → List ℕ
+delivery_start plan host packet = codes "deliver " ++ (host_at plan host).name ++ codes " " ++ decimal packet ++ codes " from "
+
 -- that a packet is delivered to a host from the end at which it was put out
 abbrev pub deliver_line : Plan → ℕ → ℕ → ℕ → List ℕ
-deliver_line plan host packet end =
-    codes "deliver " ++ (host_at plan host).name ++ codes " " ++ decimal packet
-    ++ codes " from " ++ text_of_end plan end ++ codes " : " ++ text_of_packet plan packet
+deliver_line plan host packet end = delivery_start plan host packet ++ text_of_end plan end ++ codes " : " ++ text_of_packet plan packet
+
+-- an abort up to the fields of its packet
+abbrev pub abort_start : Plan → ℕ → ℕ → List ℕ
+abort_start plan box packet = codes "abort " ++ text_of_box plan box ++ codes " " ++ decimal packet ++ codes " : "
 
 -- that a box aborts at a packet
 abbrev pub abort_line : Plan → ℕ → ℕ → List ℕ
-abort_line plan box packet =
-    codes "abort " ++ text_of_box plan box ++ codes " " ++ decimal packet ++ codes " : " ++ text_of_packet plan packet
+abort_line plan box packet = abort_start plan box packet ++ text_of_packet plan packet
 
--- the host at the other end of the link of an end, which has the number of that other end
-abbrev pub host_across : Plan → ℕ → ℕ
-host_across plan end = unwrap_or (partner_of plan end) 0
+-- the host of a place, if there is a place and it is a host's
+abbrev pub host_of_place : Option Place → Option ℕ
+host_of_place (Some (Host host)) = Some host
+host_of_place _ = None
 
--- a bad fact: the delivery of a packet, or an abort; a state is never bad
+-- the host of an end, if there is an end and a host is there
+abbrev pub host_of_end : Plan → Option ℕ → Option ℕ
+host_of_end plan None = None
+host_of_end plan (Some end) = host_of_place (slice_get (places_of plan) end)
+
+-- the host at the other end of the link of an end, if the end has a link and a host is there
+abbrev pub host_across : Plan → ℕ → Option ℕ
+host_across plan end = host_of_end plan (partner_of plan end)
+
+abbrev pub delivery_line : Plan → Option ℕ → ℕ → ℕ → List ℕ
+delivery_line plan None packet end = []
+delivery_line plan (Some host) packet end = deliver_line plan host packet end
+
+-- a bad fact: the delivery of a packet, or an abort; what isn't delivered to a host, and a state, is never bad and has no line
 abbrev pub bad_line : Plan → Fact → List ℕ
-bad_line plan (Out end packet) = deliver_line plan (host_across plan end) packet end
+bad_line plan (Out end packet) = delivery_line plan (host_across plan end) packet end
 bad_line plan (State box packet mask) = []
 bad_line plan (Abort box packet) = abort_line plan box packet
 
@@ -114,9 +145,12 @@ verdict_text plan (fact ∷ facts) =
 abbrev pub report_of : Plan → List Fact → List Fact → List ℕ
 report_of plan facts bad = line (network_line plan) ++ line (facts_line facts) ++ verdict_text plan bad
 
--- an `Out` at an end that has a link, with a packet of the plan
-abbrev pub IsOutInRange : Plan → Fact → Type 0
-IsOutInRange plan (Out end packet) =
-    (end < ends_of plan) × (packet < packets_of plan) × ((other : ℕ) × IsLinked plan end other)
-IsOutInRange plan (State box packet mask) = ⊥
-IsOutInRange plan (Abort box packet) = ⊥
+-- the end is linked to that of a host
+abbrev pub IsToHost : Plan → ℕ → Type 0
+IsToHost plan end = (host : ℕ) × (other : ℕ) × IsLinked plan end other × IsEndAt plan other (Host host)
+
+-- a fact that has a line: an `Out` at an end that is linked to that of a host, or an abort, with its numbers in range
+abbrev pub HasLine : Plan → Fact → Type 0
+HasLine plan (Out end packet) = (end < ends_of plan) × (packet < packets_of plan) × IsToHost plan end
+HasLine plan (State box packet mask) = ⊥
+HasLine plan (Abort box packet) = (box < boxes_of plan) × (packet < packets_of plan)

@@ -1,10 +1,12 @@
 ghost use Rattle.std.specs.Prelude.{◌≡◌, ◌<◌, ◌++◌, length, OnOk, OnErr};
 ghost use Rattle.amdl_tree.specs.Appends.{AppendsPart};
-ghost use Rattle.net_plan.specs.Plan.{packets_of, ends_of};
-ghost use Rattle.plan_text.specs.Text.{network_line, facts_line, count_of_outs, count_of_states, count_of_aborts, text_of_end, text_of_field, text_of_packet};
+ghost use Rattle.net_plan.specs.Plan.{packets_of, boxes_of, box_at, ports_of};
+ghost use Rattle.net_plan.specs.Ends.{ends_of};
+ghost use Rattle.plan_text.specs.Text.{network_line, facts_line, count_of_outs, count_of_states, count_of_aborts, text_of_place, text_of_end, text_of_field, text_of_packet};
 
 use crate::digits::Digits;
-use amdl_tree::{Name, NoMemory, put_all};
+use amdl_tree::{NoMemory, put_all};
+use net_plan::laws::{host_ends, port_ends};
 use net_plan::{Fact, Network, Place};
 
 /// Appends the network line, without its end.
@@ -85,19 +87,32 @@ pub fn put_end(network: &Network, end: u32, out: &mut Vec<u8>) -> Result<(), NoM
     ensures ok { OnOk result (out.new.items ≡ out.old.items ++ text_of_end network.now end) }
     ensures err { OnErr result (AppendsPart out.old.items out.new.items (text_of_end network.now end)) }
 {
-    let name = end_name(network, end);
+    host_ends();
+    port_ends();
+    match network.place(end) {
+        Place::Host(host) => put_host(network, host, out),
+        Place::Port(b, port) => put_port(network, b, port, out),
+    }
+}
+
+fn put_host(network: &Network, host: u32, out: &mut Vec<u8>) -> Result<(), NoMemory>
+    requires { host < length network.now.hosts }
+    ensures ok { OnOk result (out.new.items ≡ out.old.items ++ text_of_place network.now (Place.Host host)) }
+    ensures err { OnErr result (AppendsPart out.old.items out.new.items (text_of_place network.now (Place.Host host))) }
+{
+    let name = network.host_name(host);
     put_all(out, &[name.bytes()])
 }
 
-/// The name of an end.
-pub(crate) fn end_name(network: &Network, end: u32) -> Name
-    requires { end < ends_of network.now }
-    ensures { result ≡ text_of_end network.now end }
+fn put_port(network: &Network, b: u32, port: u32, out: &mut Vec<u8>) -> Result<(), NoMemory>
+    requires boxed { b < boxes_of network.now }
+    requires port { port < ports_of network.now (box_at network.now b) }
+    ensures ok { OnOk result (out.new.items ≡ out.old.items ++ text_of_place network.now (Place.Port b port)) }
+    ensures err { OnErr result (AppendsPart out.old.items out.new.items (text_of_place network.now (Place.Port b port))) }
 {
-    match network.place(end) {
-        Place::Host(host) => network.host_name(host),
-        Place::Port(..) => unreachable!(),
-    }
+    let name = network.box_name(b);
+    let port_name = network.port_name(b, port);
+    put_all(out, &[name.bytes(), b".", port_name.bytes()])
 }
 
 /// Appends each field of a packet with its value. Linear in the fields, each of which takes time in their number.

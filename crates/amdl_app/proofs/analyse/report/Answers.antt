@@ -2,8 +2,8 @@ use Rattle.std.proofs.Common.{◌≡◌, ℕ, ◌++◌, List, All, subst, sym, a
 use Rattle.std.proofs.lemmas.List.Elements.{All-contains, Contains-get_or}
 use Rattle.net_plan.specs.declared.fact.Fact.{Fact}
 use Rattle.net_plan.specs.Fact.{ListsExactly}
-use Rattle.net_plan.specs.Follows.{IsInRange}
-use Rattle.plan_text.specs.Text.{report_of, IsOutInRange}
+use Rattle.net_plan.specs.Cells.{IsInRange}
+use Rattle.plan_text.specs.Text.{report_of, HasLine}
 use Rattle.amdl_app.specs.Analysis.{IsBadAmong}
 use Rattle.amdl_app.specs.Reply.{says}
 use Rattle.amdl_app.specs.Report.{status_of}
@@ -13,7 +13,7 @@ use Rattle.amdl_app.proofs.analyse.report.Goals as goal
 pub put_report-requires : goal.put_report-requires
 put_report-requires c =
     let bad_is : c.as_slice-3.result.now ≡ c.in_ok-bad.bad = c.as_slice-3.ensures in
-    subst (All (IsOutInRange c.args.network.now)) (sym bad_is)
+    subst (All (HasLine c.args.network.now)) (sym bad_is)
     (λ k d within.
     let fact : Fact = slice_index_or c.in_ok-bad.bad k d in
     let among = (c.in_ok-bad.ensures.member fact).0 (Contains-get_or c.in_ok-bad.bad k d within) in

@@ -10,4 +10,4 @@ no_premises plan [] conclusion gives = refl
 no_premises plan (premise ∷ premises) conclusion gives = absurd gives
 
 pub returns : goal.returns
-returns c = λ plan fact. derivable_from_none (Follows plan) (no_premises plan) fact
+returns c = λ plan fact boxless. derivable_from_none (Follows plan) (no_premises plan) fact

@@ -7,7 +7,7 @@ use Rattle.std.proofs.lemmas.Result.{on_err_weaker}
 use Rattle.amdl_tree.specs.Layout.{line}
 use Rattle.net_plan.specs.declared.plan.Plan.{Plan}
 use Rattle.net_plan.specs.declared.fact.Fact.{Fact}
-use Rattle.plan_text.specs.Text.{bad_line, more_text, verdict_text, IsOutInRange}
+use Rattle.plan_text.specs.Text.{bad_line, more_text, verdict_text, HasLine}
 use Rattle.amdl_tree.proofs.AppendLemmas.{on_err, part_first, part_after, appended_after}
 use Rattle.plan_text.proofs.report.put_verdict.Goals as goal
 
@@ -40,7 +40,7 @@ returns-in_err-put_all-clause-err c =
     (lines_of plan (take 1000 bad) ++ more_text (length bad)) (verdict_text plan bad) whole c.in_err-put_all.ensures.err)
 
 pub put_bad_lines-requires : goal.put_bad_lines-requires
-put_bad_lines-requires c = rw c.listed.ensures (All-take (IsOutInRange c.args.network.now) 1000 c.args.bad.now c.requires)
+put_bad_lines-requires c = rw c.listed.ensures (All-take (HasLine c.args.network.now) 1000 c.args.bad.now c.requires)
 
 pub returns-in_err-put_bad_lines-clause-err : goal.returns-in_err-put_bad_lines-clause-err
 returns-in_err-put_bad_lines-clause-err c =

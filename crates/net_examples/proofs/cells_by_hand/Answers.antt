@@ -1,0 +1,5 @@
+use Rattle.std.proofs.Common.{refl}
+use Rattle.net_examples.proofs.cells_by_hand.Goals as goal
+
+pub returns : goal.returns
+returns c = record { count = refl; numbers = refl }

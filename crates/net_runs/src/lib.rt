@@ -1,0 +1,7 @@
+//! States, steps and runs of a network, and what holds of them.
+#![tactic(auto)]
+
+pub mod laws;
+mod world;
+
+pub use world::{Event, Mode, Step, World};
