@@ -1,14 +1,13 @@
 //! The numbered network: its plan, ends and facts, what follows in it and what is bad.
 #![tactic(auto)]
 
-mod act;
 mod fact;
 pub mod laws;
 mod network;
 mod plan;
 mod tables;
 
-pub use act::{Act, Branch, Change, Probe, Query, Term, Test};
+pub use box_handlers::{Act, Branch, Change, Probe, Query, Term, Test};
 pub use fact::{Fact, Place, precedes};
 pub use network::Network;
 pub use plan::{BoxPlan, ClassPlan, FieldPlan, HostPlan, KindPlan, LinkPlan, Plan, RelationPlan};

@@ -42,7 +42,7 @@ pub struct Network {
 impl Model for Network {
     ghost use Rattle.net_plan.specs.declared.plan.Plan.{Plan};
     ghost use Rattle.net_plan.specs.Kept.{IsKept};
-    ghost use Rattle.net_plan.specs.contracts.act.Act as act;
+    ghost use Rattle.box_handlers.specs.contracts.act.Act as act;
     ghost use Rattle.std.specs.Coded.{codes};
 
     ghost Value = { Plan };

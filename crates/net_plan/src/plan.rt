@@ -1,6 +1,6 @@
-use crate::act::{Act, Query};
 use amdl_tree::{List, Name};
 use box_contents::Entry;
+use box_handlers::{Act, Query};
 use header_set::Pattern;
 
 /// A network as numbers: types, fields, classes, hosts, boxes and links, each numbered by its place in its list.

@@ -1,0 +1,5 @@
+pub mod BodyLemmas
+mod AskedLemmas
+mod FillLemmas
+mod ExampleLemmas
+mod MemberLemmas
