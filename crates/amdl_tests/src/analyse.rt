@@ -24,12 +24,18 @@ fn both_wires(rt: HostRuntime) -> Result<(), Fail> {
 }
 
 #[test]
-fn other_answers(rt: HostRuntime) -> Result<(), Fail> {
+fn no_such_file(rt: HostRuntime) -> Result<(), Fail> {
     let mut files = SureFiles::new(rt.alloc());
     let mut out = SureSink::new(rt.alloc());
     let status = analyse(rt.alloc(), "none.amdl", &mut files, &mut out)?;
     assert_eq!(rt; status, 4);
     assert_eq!(rt; out.bytes(), b"missing none.amdl\n".as_slice());
+    Ok(())
+}
+
+#[test]
+fn no_words(rt: HostRuntime) {
+    let mut files = SureFiles::new(rt.alloc());
     let mut out = SureSink::new(rt.alloc());
     let status = run(rt.alloc(), &[], &mut files, &mut out);
     assert_eq!(rt; status, 2);
@@ -37,7 +43,6 @@ fn other_answers(rt: HostRuntime) -> Result<(), Fail> {
         out.bytes(),
         b"usage: amdl VERB WORD [WORD]\nverbs: analyse format\n".as_slice()
     );
-    Ok(())
 }
 
 #[test]

@@ -2,6 +2,7 @@
 use crate::networks::WIRE;
 use crate::texts::{call, full};
 use amdl_app::run;
+use amdl_tree::NoMemory;
 use outside::{MemoryFiles, MemorySink};
 use std::alloc::{AllocError, Global};
 use std::test::Fail;
@@ -13,7 +14,7 @@ const ALARM_REPORT: &str =
 const VERBS: [(&str, u32, u8, &str); 2] = [("analyse", 1, 1, ALARM_REPORT), ("format", 1, 0, WIRE)];
 
 // The files of a test: one network.
-fn files_with(alloc: Global, text: &str) -> Result<MemoryFiles, AllocError> {
+fn files_with(alloc: Global, text: &str) -> Result<MemoryFiles, NoMemory> {
     let mut files = MemoryFiles::new(alloc);
     files.keep("net", text.as_bytes())?;
     Ok(files)

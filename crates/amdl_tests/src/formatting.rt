@@ -72,47 +72,6 @@ fn layouts(rt: HostRuntime) -> Result<(), Fail> {
     Ok(())
 }
 
-#[test]
-fn faulty_texts(rt: HostRuntime) -> Result<(), Fail> {
-    let texts: [(&str, &[u8], &str); 12] = [
-        ("no text", b"", "token 0 Syntax"),
-        ("a comment of any bytes", b"#\xff", "token 0 Syntax"),
-        ("no semicolon", b"network x host h;", "token 2 Syntax"),
-        ("a text that ends", b"network x", "token 2 Syntax"),
-        ("no value", b"network x; type T = {};", "token 7 Syntax"),
-        ("a lone sign", b"network x;\n@", "byte 11 BadByte"),
-        (
-            "a byte order mark",
-            b"\xef\xbb\xbfnetwork x;",
-            "byte 0 BadByte",
-        ),
-        (
-            "a bad byte behind a bad token",
-            b"network ; ; @",
-            "byte 12 BadByte",
-        ),
-        (
-            "25 letters",
-            b"network abcdefghijklmnopqrstuvwxy;",
-            "byte 8 WordTooLong",
-        ),
-        ("10 digits", b"0000000000", "byte 0 WordTooLong"),
-        (
-            "a long word before a bad byte",
-            b"network abcdefghijklmnopqrstuvwxy;@",
-            "byte 8 WordTooLong",
-        ),
-        ("three dashes", b"---", "byte 2 BadByte"),
-    ];
-    for (label, text, refusal) in texts {
-        let (status, out) = reply_of(rt.alloc(), "format", text)?;
-        let line = format!(in rt.alloc(); "refused network {refusal}\n")?;
-        assert_eq!(rt; status, 3, "{label}");
-        assert_eq!(rt; out.bytes(), line.as_bytes(), "{label}");
-    }
-    Ok(())
-}
-
 // A handler with so many `not` in a guard.
 fn denied(alloc: Global, nots: u32) -> Result<String, AllocError> {
     let mut text = String::from_str(
@@ -146,8 +105,6 @@ fn the_thirty_third_level(rt: HostRuntime) -> Result<(), Fail> {
 #[test]
 fn the_limits(rt: HostRuntime) -> Result<(), Fail> {
     let texts = [
-        ("1,000,000 tokens", b';', 1_000_000, "token 0 Syntax"),
-        ("1,000,001 tokens", b';', 1_000_001, "TooManyTokens"),
         ("4,194,304 blanks", b' ', 4_194_304, "token 0 Syntax"),
         ("4,194,305 blanks", b' ', 4_194_305, "TooLong"),
     ];

@@ -4,17 +4,11 @@
 #[cfg(test)]
 mod analyse;
 #[cfg(test)]
-mod digits;
-#[cfg(test)]
 mod failing_system;
 #[cfg(test)]
 mod faults;
 #[cfg(test)]
 mod formatting;
-#[cfg(test)]
-mod headers;
-#[cfg(test)]
-mod language;
 #[cfg(test)]
 mod memory_and_system;
 #[cfg(test)]
@@ -22,7 +16,7 @@ mod narrow_texts;
 #[cfg(test)]
 mod networks;
 #[cfg(test)]
-mod spelling;
+mod refusals;
 #[cfg(test)]
 mod texts;
 #[cfg(test)]

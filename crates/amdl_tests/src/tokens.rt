@@ -1,7 +1,7 @@
-//! Tokens with their places, and the first faults.
+//! Tokens with their places.
 use amdl_lexer::{LexRefusal, lex};
 use amdl_tree::{Lexed, List, Name, Reserved, Sign, Token};
-use std::alloc::{AllocError, Global};
+use std::alloc::Global;
 
 const WIRE: &[u8] =
     b"network wire;\ntype Addr = {a, b};\nfield src : Addr;\nfield dst : Addr;\nhost p;\nhost q;\nlink p -- q;\nsends p : src = a;\nforbid q : src = a, dst = b;\n";
@@ -126,75 +126,5 @@ fn blanks_and_comments(rt: HostRuntime) -> Result<(), LexRefusal> {
     assert_eq!(rt; at(&tokens, 0), placed(Token::Key(Reserved::Host), 10, 14));
     assert_eq!(rt; count_of(rt.alloc(), b""), Ok(0));
     assert_eq!(rt; count_of(rt.alloc(), b" \t\r\n##\n#"), Ok(0));
-    Ok(())
-}
-
-#[test]
-fn bad_bytes(rt: HostRuntime) {
-    let texts: [(&[u8], u32); 14] = [
-        (b"network x;\n@", 11),
-        (b"---", 2),
-        (b"!", 0),
-        (b"- >", 0),
-        (b"a! =", 1),
-        (b"a\x80", 1),
-        (b"\xef\xbb\xbfa", 0),
-        (b"a \x00", 2),
-        (b"\x0b", 0),
-        (b"\x0c", 0),
-        (b"\x7f", 0),
-        (b"#@\n@", 3),
-        (b"#\r@\n $", 5),
-        (b"\"", 0),
-    ];
-    for (bytes, place) in texts {
-        assert_eq!(rt;
-            count_of(rt.alloc(), bytes),
-            Err(LexRefusal::BadByte(place)),
-            "{bytes:?}"
-        );
-    }
-}
-
-#[test]
-fn long_words(rt: HostRuntime) {
-    assert_eq!(rt;
-        count_of(rt.alloc(), b"network abcdefghijklmnopqrstuvwx;"),
-        Ok(3)
-    );
-    let texts: [(&[u8], u32); 4] = [
-        (b"network abcdefghijklmnopqrstuvwxy;@", 8),
-        (b"0000000000", 0),
-        (b"a 1234567890b", 2),
-        (b"# x\nabcdefghijklmnopqrstuvwxyz0123456789", 4),
-    ];
-    for (bytes, place) in texts {
-        assert_eq!(rt;
-            count_of(rt.alloc(), bytes),
-            Err(LexRefusal::WordTooLong(place)),
-            "{bytes:?}"
-        );
-    }
-}
-
-#[test]
-fn many_tokens(rt: HostRuntime) -> Result<(), AllocError> {
-    let mut text = vec![in rt.alloc(); b';'; 1_000_000]?;
-    text.extend_from_slice(b" # all\n")?;
-    assert_eq!(rt; count_of(rt.alloc(), &text), Ok(1_000_000));
-    text.extend_from_slice(b"@")?;
-    assert_eq!(rt;
-        count_of(rt.alloc(), &text),
-        Err(LexRefusal::BadByte(1_000_007))
-    );
-    text.truncate(1_000_000);
-    text.extend_from_slice(b"1234567890;")?;
-    assert_eq!(rt;
-        count_of(rt.alloc(), &text),
-        Err(LexRefusal::WordTooLong(1_000_000))
-    );
-    text.truncate(1_000_000);
-    text.extend_from_slice(b";@")?;
-    assert_eq!(rt; count_of(rt.alloc(), &text), Err(LexRefusal::TooManyTokens));
     Ok(())
 }

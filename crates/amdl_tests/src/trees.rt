@@ -1,23 +1,5 @@
-//! Names, lists and guards.
-use amdl_tree::{Boxed, List, Lit, Name, NoMemory};
-
-#[test]
-fn names(rt: HostRuntime) {
-    let spellings: [(&[u8], bool); 9] = [
-        (b"a", true),
-        (b"abcdefghijklmnopqrstuvwx", true),
-        (b"abcdefghijklmnopqrstuvwxy", false),
-        (b"", false),
-        (b"9a", false),
-        (b"type", false),
-        (b"soft", true),
-        (b"send", true),
-        (b"a-b", false),
-    ];
-    for (bytes, named) in spellings {
-        assert_eq!(rt; Name::new(bytes).is_some(), named, "{bytes:?}");
-    }
-}
+//! Lists and guards.
+use amdl_tree::{Boxed, List, Lit, NoMemory};
 
 #[test]
 fn lists_change(rt: HostRuntime) -> Result<(), NoMemory> {
