@@ -8,6 +8,8 @@ mod failing_system;
 #[cfg(test)]
 mod faults;
 #[cfg(test)]
+mod fixpoints;
+#[cfg(test)]
 mod formatting;
 #[cfg(test)]
 mod memory_and_system;
@@ -17,6 +19,8 @@ mod narrow_texts;
 mod networks;
 #[cfg(test)]
 mod refusals;
+#[cfg(test)]
+mod sets_of_cells;
 #[cfg(test)]
 mod texts;
 #[cfg(test)]

@@ -86,3 +86,8 @@ module _ (follows : List ℕ → ℕ → Type 0) where
   pub derivable_once : (given premises : List ℕ) (cell : ℕ) → All (Contains given) premises → follows premises cell → IsDerivable (GivenOrFollows follows given) cell
   derivable_once given premises cell all gives =
       derivable_step (GivenOrFollows follows given) premises cell (All-weaker (Contains given) (IsDerivable (GivenOrFollows follows given)) (derivable_given given) premises all) (inr gives)
+
+  -- lists of the same cells are closed together
+  pub closed_same : (xs ys : List ℕ) → ((cell : ℕ) → Contains xs cell ↔ Contains ys cell) → IsClosed follows xs → IsClosed follows ys
+  closed_same xs ys same closed premises conclusion all gives =
+      (same conclusion).0 (closed premises conclusion (All-weaker (Contains ys) (Contains xs) (λ cell has. (same cell).1 has) premises all) gives)

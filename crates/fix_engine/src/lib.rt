@@ -9,5 +9,5 @@ mod work;
 
 pub use abstraction::{Abstraction, safe_runs};
 pub use domain::AbstractDomain;
-pub use fixpoint::least;
+pub use fixpoint::{least, least_set};
 pub use work::Work;

@@ -1,0 +1,4 @@
+pub mod ByHand
+pub mod Laws
+pub mod Paths
+pub mod Walks
