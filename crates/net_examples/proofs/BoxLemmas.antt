@@ -1,15 +1,14 @@
 -- The network with two boxes by hand.
-use Rattle.std.proofs.Common.{◌≡◌, ℕ, zero, suc, ◌<◌, List, [], ◌∷◌, Option, Some, None, refl, sym, ap, subst, ◌∙◌, ◌⊎◌, inl, inr, arith, lit<}
+use Rattle.std.proofs.Common.{◌≡◌, ℕ, zero, suc, ◌<◌, List, [], ◌∷◌, Option, Some, None, refl, sym, subst, ◌∙◌, ◌⊎◌, inl, inr, arith, lit<}
 use Rattle.std.specs.List.{Any}
 use Rattle.header_set.specs.Headers.{field_of}
 use Rattle.header_set.specs.Pattern.{fixed_at, Matches}
 use Rattle.net_plan.specs.declared.plan.LinkPlan.{LinkPlan}
 use Rattle.net_plan.specs.declared.fact.Place.{Place}
 use Rattle.net_plan.specs.declared.fact.Place.TheVariants.{Host, Port}
-use Rattle.net_plan.specs.declared.fact.Fact.TheVariants.{Out}
 use Rattle.net_plan.specs.Plan.{Forbids}
 use Rattle.net_plan.specs.Ends.{IsEndAt, IsPlaceNamed, Joins, IsLinkedBy}
-use Rattle.net_plan.specs.Follows.{IsBad, IsForbiddenDelivery}
+use Rattle.net_plan.specs.Follows.{IsForbiddenDelivery}
 use Rattle.net_plan.proofs.Rising.{contained_cases, none_contained, head_contained, tail_contained}
 use Rattle.net_examples.specs.Boxes.{two_boxes, NamesByHand, BadByHand}
 
@@ -123,9 +122,9 @@ one_sign a b e = cc
 
 bare : (end : ℕ) (place : Place) → IsEndAt two_boxes end place → IsPlaceNamed two_boxes (119 ∷ []) None place → ⊥
 bare end (Port box port) at named = named
-bare zero (Host host) at named = let same : 0 ≡ host = same_host 0 host at in let e : 112 ≡ 119 = one_sign 112 119 (subst (λ (h : ℕ). IsPlaceNamed two_boxes (119 ∷ []) None (Host h)) (sym same) named) in absurd (omega arith)
-bare (suc zero) (Host host) at named = let same : 1 ≡ host = same_host 1 host at in let e : 113 ≡ 119 = one_sign 113 119 (subst (λ (h : ℕ). IsPlaceNamed two_boxes (119 ∷ []) None (Host h)) (sym same) named) in absurd (omega arith)
-bare (suc (suc zero)) (Host host) at named = let same : 2 ≡ host = same_host 2 host at in let e : 114 ≡ 119 = one_sign 114 119 (subst (λ (h : ℕ). IsPlaceNamed two_boxes (119 ∷ []) None (Host h)) (sym same) named) in absurd (omega arith)
+bare zero (Host host) at named = let same : 0 ≡ host = same_host 0 host at in let e : ◌≡◌ {A = ℕ} 112 119 = one_sign 112 119 (subst (λ (h : ℕ). IsPlaceNamed two_boxes (119 ∷ []) None (Host h)) (sym same) named) in absurd (omega arith)
+bare (suc zero) (Host host) at named = let same : 1 ≡ host = same_host 1 host at in let e : ◌≡◌ {A = ℕ} 113 119 = one_sign 113 119 (subst (λ (h : ℕ). IsPlaceNamed two_boxes (119 ∷ []) None (Host h)) (sym same) named) in absurd (omega arith)
+bare (suc (suc zero)) (Host host) at named = let same : 2 ≡ host = same_host 2 host at in let e : ◌≡◌ {A = ℕ} 114 119 = one_sign 114 119 (subst (λ (h : ℕ). IsPlaceNamed two_boxes (119 ∷ []) None (Host h)) (sym same) named) in absurd (omega arith)
 bare (suc (suc (suc zero))) (Host host) at named = absurd (let never : Some (Port 0 0) ≡ Some (Host host) = at in cc)
 bare (suc (suc (suc (suc zero)))) (Host host) at named = absurd (let never : Some (Port 0 1) ≡ Some (Host host) = at in cc)
 bare (suc (suc (suc (suc (suc zero))))) (Host host) at named = absurd (let never : Some (Port 1 0) ≡ Some (Host host) = at in cc)

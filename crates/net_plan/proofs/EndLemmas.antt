@@ -1,5 +1,5 @@
 -- The ends of a plan by their numbers.
-use Rattle.std.proofs.Common.{◌≡◌, ℕ, zero, suc, ◌+◌, ◌-◌, ◌<◌, ◌≤◌, List, [], ◌∷◌, ◌++◌, Option, Some, None, map, length, take, slice_get, slice_index_or, sum_by, refl, sym, ap, subst, ◌∙◌, ◌⊎◌, inl, inr, ◌↔◌, zero-add, add_assoc, arith}
+use Rattle.std.proofs.Common.{◌≡◌, ℕ, zero, suc, ◌+◌, ◌-◌, ◌<◌, List, [], ◌∷◌, ◌++◌, Some, map, length, take, slice_get, slice_index_or, sum_by, refl, sym, ap, subst, ◌∙◌, ◌⊎◌, inl, inr, ◌↔◌, zero-add, arith}
 use Rattle.std.specs.List.{range_with_len}
 use Rattle.std.specs.Option.{option_map}
 use Rattle.std.proofs.lemmas.Bool.{cases_lt}

@@ -1,6 +1,5 @@
 -- The table of partners as links are told to it.
-use Rattle.std.proofs.Common.{◌≡◌, ◌≢◌, ℕ, ◌+◌, ◌<◌, ◌≤◌, List, [], ◌∷◌, ◌++◌, Option, Some, None, MatchOption, length, map, take, slice_set, slice_index_or, refl, sym, ap, subst, ◌∙◌, ◌⊎◌, inl, inr, arith}
-use Rattle.std.specs.List.{Contains, range_with_len}
+use Rattle.std.proofs.Common.{◌≡◌, ◌≢◌, ℕ, ◌+◌, ◌<◌, List, [], ◌∷◌, ◌++◌, Option, Some, None, MatchOption, length, take, slice_set, slice_index_or, refl, sym, ap, subst, ◌∙◌, ◌⊎◌, inl, inr, arith}
 use Rattle.std.proofs.Math.ListN.{length-set}
 use Rattle.std.proofs.lemmas.Bool.{cases_eq}
 use Rattle.std.proofs.lemmas.List.{take_more, get_or-set_same, get_or-set_other}
@@ -8,7 +7,7 @@ use Rattle.std.proofs.lemmas.List.FromFn.{fill_by_all}
 use Rattle.std.proofs.lemmas.List.Elements.{Contains-append_left, Contains-push, Contains-push_cases}
 use Rattle.net_plan.specs.declared.plan.Plan.{Plan}
 use Rattle.net_plan.specs.declared.plan.LinkPlan.{LinkPlan}
-use Rattle.net_plan.specs.Ends.{ends_of, Joins, IsLinkedBy, IsLinked, partner_of}
+use Rattle.net_plan.specs.Ends.{ends_of, Joins, IsLinkedBy, partner_of}
 use Rattle.net_plan.specs.Kept.{partners_of}
 use Rattle.net_plan.specs.Sound.{IsLink, IsSound}
 use Rattle.net_plan.proofs.Linked.{partner_settled}

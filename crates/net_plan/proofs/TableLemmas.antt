@@ -1,10 +1,10 @@
 -- The tables of a network, and how large the numbers of a sound plan are.
-use Rattle.std.proofs.Common.{◌≡◌, ℕ, zero, suc, ◌+◌, ◌*◌, ◌<◌, ◌≤◌, List, [], ◌∷◌, length, map, take, slice_index_or, sum_by, refl, sym, ap, ◌∙◌, zero-add, one-mul, arith}
+use Rattle.std.proofs.Common.{◌≡◌, ℕ, suc, ◌+◌, ◌*◌, ◌<◌, ◌≤◌, List, [], ◌∷◌, length, map, take, slice_index_or, sum_by, refl, ap, ◌∙◌, zero-add, one-mul, arith}
 use Rattle.std.specs.List.{range_with_len}
 use Rattle.std.proofs.lemmas.List.FromFn.{length-map-range_with_len, get_or-map-range_with_len}
 use Rattle.std.proofs.lemmas.List.Sums.{sum_by-take-le}
 use Rattle.std.proofs.lemmas.Nat.{mul-le}
-use Rattle.header_set.specs.Headers.{product, IsSize, FirstSizesFit, IsHeaders}
+use Rattle.header_set.specs.Headers.{product, IsSize, FirstSizesFit}
 use Rattle.net_plan.specs.declared.plan.Plan.{Plan}
 use Rattle.net_plan.specs.Plan.{sizes_of, packets_of, boxes_of, masks_of}
 use Rattle.net_plan.specs.Ends.{ends_of}

@@ -224,8 +224,8 @@ impl Network {
         matches_one(&self.headers, self.host(host).forbids.as_slice(), packet)
     }
 
-    /// Whether a fact in range is bad: an abort, or a packet put out at an end that is linked to a host which forbids it.
-    /// Linear in the patterns of that host.
+    /// Whether a fact in range is bad: an abort, or a packet put out at an end that is linked to a host which forbids
+    /// it. Linear in the patterns of that host.
     pub fn bad(&self, fact: Fact) -> bool
         requires { IsInRange self.now fact }
         ensures { IsTrue result ↔ IsBad self.now fact }

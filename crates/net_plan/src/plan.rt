@@ -32,8 +32,8 @@ pub struct FieldPlan {
     pub kind: u32,
 }
 
-/// A class of boxes: its ports and relations, each numbered by its place, one handler for each port, and the queries that
-/// the handlers ask.
+/// A class of boxes: its ports and relations, each numbered by its place, one handler for each port, and the queries
+/// that the handlers ask.
 #[derive(Debug, Drop)]
 pub struct ClassPlan {
     pub ports: List<Name>,

@@ -1,16 +1,13 @@
 -- Steps and runs.
-use Rattle.std.proofs.Common.{◌≡◌, ℕ, ◌<◌, ◌≤◌, List, [], ◌∷◌, ◌++◌, Option, Some, None, Bool, ◌==◌, if◌then◌else◌, MatchOption, length, replicate, slice_set, slice_index_or, refl, sym, ap, subst, ◌∙◌, ◌⊎◌, inl, inr, ◌↔◌, arith}
+use Rattle.std.proofs.Common.{◌≡◌, ℕ, ◌<◌, ◌≤◌, List, [], ◌∷◌, ◌++◌, length, replicate, slice_set, slice_index_or, refl, sym, ap, subst, ◌∙◌, ◌⊎◌, inl, inr, ◌↔◌, arith}
 use Rattle.std.specs.List.{Contains}
-use Rattle.std.specs.Option.{option_or}
 use Rattle.std.proofs.lemmas.Bool.{cases_lt, cases_eq}
-use Rattle.std.proofs.lemmas.Bool.Decides.{eqb_tells}
 use Rattle.std.proofs.lemmas.List.{get_or-replicate, length-replicate, get_or-set_same, get_or-set_other}
 use Rattle.std.proofs.Math.ListN.{get_or-eq_default, length-set}
 use Rattle.std.proofs.lemmas.List.Elements.{All-nil, All-weaker, Contains-append_left, Contains-append_right, Contains-append_cases, Contains-push_cases}
 use Rattle.amdl_tree.specs.Derivation.{IsDerivable}
 use Rattle.amdl_tree.proofs.DerivationLemmas.{derivable_step}
 use Rattle.net_plan.specs.declared.plan.Plan.{Plan}
-use Rattle.net_plan.specs.declared.plan.LinkPlan.{LinkPlan}
 use Rattle.net_plan.specs.declared.fact.Fact.{Fact}
 use Rattle.net_plan.specs.declared.fact.Fact.TheVariants.{Out}
 use Rattle.net_runs.specs.declared.world.Mode.{Mode}
@@ -22,7 +19,7 @@ use Rattle.net_runs.specs.declared.world.Event.TheVariants.{Moved, Delivered}
 use Rattle.net_runs.specs.declared.world.World.{World}
 use Rattle.net_plan.specs.Sound.{IsSound}
 use Rattle.net_plan.specs.declared.fact.Place.TheVariants.{Host}
-use Rattle.net_plan.specs.Ends.{ends_of, IsEndAt, IsLinked}
+use Rattle.net_plan.specs.Ends.{ends_of, IsEndAt}
 use Rattle.net_plan.specs.Follows.{Starts, Follows, IsLeast, IsBad}
 use Rattle.net_runs.specs.World.{first_world, waiting_at, with_waiting, IsNext, PutsOut, IsSend, Leads, Run, IsBadEvent, HasNoBadRun}
 use Rattle.net_runs.specs.Covers.{Covers, IsClosed}

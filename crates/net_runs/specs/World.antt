@@ -1,6 +1,6 @@
 -- States of a network without boxes, steps and runs. Steps of boxes come with executions; the laws on steps and runs are of
 -- plans without a box.
-use Rattle.std.specs.Prelude.{◌≡◌, ℕ, ◌<◌, List, [], ◌∷◌, ◌++◌, length, replicate, slice_set, slice_index_or}
+use Rattle.std.specs.Prelude.{◌≡◌, ℕ, ◌<◌, List, [], ◌∷◌, ◌++◌, replicate, slice_set, slice_index_or}
 use Rattle.std.specs.List.{Contains}
 use Rattle.net_plan.specs.declared.plan.Plan.{Plan}
 use Rattle.net_runs.specs.declared.world.Mode.{Mode}

@@ -30,8 +30,8 @@ impl Network {
     }
 
     /// The number of the end with this name: a host's has the name of the host and no port, a port's has the names of
-    /// its box and its own. None comes exactly where no such end is declared. Linear in the hosts or in the boxes and the
-    /// ports of the box.
+    /// its box and its own. None comes exactly where no such end is declared. Linear in the hosts, or in the boxes and
+    /// the ports of the box.
     pub fn find_end(&self, host_or_box: Name, port: Option<Name>) -> Option<u32>
         ensures { MatchOption result ((end : ℕ) → IsEndNamed self.now host_or_box port end → ⊥) (IsEndNamed self.now host_or_box port) }
     {

@@ -1,13 +1,11 @@
 use Rattle.std.proofs.Common.{◌≡◌, ℕ, ◌+◌, ◌∷◌, ◌++◌, [], ◌<◌, ◌≤◌, List, length, map, take, slice_index_or, sum_by, sym, ap, ◌∙◌, zero-add, arith}
 use Rattle.std.specs.List.{range_with_len}
-use Rattle.std.proofs.lemmas.List.{get_or_default}
 use Rattle.std.proofs.lemmas.List.FromFn.{map-range_with_len_more}
 use Rattle.std.proofs.lemmas.List.Sums.{sum_by_more, sum_by-take-le}
 use Rattle.net_plan.specs.declared.plan.Plan.{Plan}
 use Rattle.net_plan.specs.declared.plan.BoxPlan.{BoxPlan}
 use Rattle.net_plan.specs.declared.plan.ClassPlan.{ClassPlan}
 use Rattle.net_plan.specs.Plan.{class_of, ports_of}
-use Rattle.net_plan.specs.Ends.{ends_of}
 use Rattle.net_plan.specs.Kept.{first_end}
 use Rattle.net_plan.specs.Sound.{IsSound}
 use Rattle.net_plan.proofs.EndLemmas.{ends_counted}

@@ -1,4 +1,4 @@
-use Rattle.std.proofs.Common.{◌≡◌, ℕ, ◌<◌, ◌≤◌, List, length, take, sym, ap, subst, ◌∙◌, arith}
+use Rattle.std.proofs.Common.{◌≡◌, List, length, take, ap, subst, arith}
 use Rattle.std.proofs.lemmas.List.{take_all}
 use Rattle.net_plan.specs.declared.plan.LinkPlan.{LinkPlan}
 use Rattle.net_plan.proofs.PartnerLemmas.{AllTold, told_more, all_told}

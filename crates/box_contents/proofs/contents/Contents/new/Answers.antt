@@ -1,6 +1,6 @@
 use Rattle.std.proofs.Common.{sym, subst}
 use Rattle.std.specs.List.Sorted.{IsStrictlySortedBy}
-use Rattle.box_contents.specs.Contents.{IsRising, entry_cmp}
+use Rattle.box_contents.specs.Contents.{IsRising}
 use Rattle.box_contents.proofs.contents.Contents.new.Goals as goal
 
 pub invariant_of-result : goal.invariant_of-result

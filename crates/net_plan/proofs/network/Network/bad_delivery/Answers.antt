@@ -1,5 +1,4 @@
 use Rattle.std.proofs.Common.{ℕ, subst}
-use Rattle.net_plan.specs.Plan.{Forbids}
 use Rattle.net_plan.specs.Ends.{IsEndAt}
 use Rattle.net_plan.specs.declared.fact.Place.TheVariants.{Host}
 use Rattle.net_plan.proofs.Linked.{partner_is_unique}

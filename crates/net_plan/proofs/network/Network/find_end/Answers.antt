@@ -1,4 +1,4 @@
-use Rattle.std.proofs.Common.{◌≡◌, ℕ, List, Option, MatchOption, sym, subst}
+use Rattle.std.proofs.Common.{ℕ, List, Option, MatchOption, sym, subst}
 use Rattle.net_plan.specs.declared.plan.Plan.{Plan}
 use Rattle.net_plan.specs.Ends.{IsEndNamed}
 use Rattle.net_plan.proofs.network.Network.find_end.Goals as goal

@@ -1,9 +1,9 @@
-use Rattle.std.proofs.Common.{◌≡◌, ℕ, List, Option, Some, None, MatchOption, subst}
+use Rattle.std.proofs.Common.{ℕ, List, None}
 use Rattle.net_plan.specs.declared.plan.Plan.{Plan}
 use Rattle.net_plan.specs.declared.fact.Place.{Place}
 use Rattle.net_plan.specs.declared.fact.Place.TheVariants.{Host, Port}
 use Rattle.net_plan.specs.Plan.{IsHostNamed}
-use Rattle.net_plan.specs.Ends.{IsEndAt, IsPlaceNamed, IsEndNamed}
+use Rattle.net_plan.specs.Ends.{IsEndAt, IsPlaceNamed}
 use Rattle.net_plan.proofs.EndLemmas as ends
 use Rattle.net_plan.proofs.network.Network.find_host_end.Goals as goal
 

@@ -1,8 +1,8 @@
-use Rattle.std.proofs.Common.{◌≡◌, ◌≢◌, ℕ, ◌+◌, ◌<◌, List, Option, Some, None, MatchOption, map, length, slice_index_or, sym, ap, subst, ◌∙◌, inl, inr, arith}
+use Rattle.std.proofs.Common.{◌≡◌, ◌≢◌, ℕ, ◌<◌, List, Option, Some, None, MatchOption, subst}
 use Rattle.net_plan.specs.declared.plan.Plan.{Plan}
 use Rattle.net_plan.specs.declared.fact.Place.{Place}
 use Rattle.net_plan.specs.declared.fact.Place.TheVariants.{Host, Port}
-use Rattle.net_plan.specs.Plan.{boxes_of, box_at, ports_of, port_name_at, IsBoxNamed}
+use Rattle.net_plan.specs.Plan.{box_at, ports_of, port_name_at, IsBoxNamed}
 use Rattle.net_plan.specs.Ends.{IsEndAt, IsPlaceNamed, IsEndNamed}
 use Rattle.net_plan.specs.Sound.{IsSound}
 use Rattle.net_plan.proofs.EndLemmas as ends

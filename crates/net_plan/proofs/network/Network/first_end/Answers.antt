@@ -1,4 +1,4 @@
-use Rattle.std.proofs.Common.{◌≡◌, ◌+◌, ap, ◌∙◌, arith}
+use Rattle.std.proofs.Common.{◌≡◌, ap, ◌∙◌, arith}
 use Rattle.net_plan.specs.Plan.{boxes_of}
 use Rattle.net_plan.specs.Kept.{first_end, first_ends}
 use Rattle.net_plan.proofs.TableLemmas.{counted_length, counted_read}

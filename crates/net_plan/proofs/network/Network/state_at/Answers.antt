@@ -1,7 +1,7 @@
-use Rattle.std.proofs.Common.{◌≡◌, ℕ, ◌+◌, ◌-◌, ◌*◌, ◌/◌, ◌%◌, ◌<◌, ◌≤◌, sym, ap, subst, ◌∙◌, arith}
+use Rattle.std.proofs.Common.{◌≡◌, ℕ, ◌+◌, ◌-◌, ◌*◌, ◌/◌, ◌%◌, sym, subst, arith}
 use Rattle.net_plan.specs.declared.plan.Plan.{Plan}
 use Rattle.net_plan.specs.declared.fact.Fact.TheVariants.{State}
-use Rattle.net_plan.specs.Plan.{packets_of, boxes_of, box_at, masks_of}
+use Rattle.net_plan.specs.Plan.{packets_of, box_at, masks_of}
 use Rattle.net_plan.specs.Cells.{IsInRange, cell_of}
 use Rattle.net_plan.specs.Kept.{first_state}
 use Rattle.net_plan.proofs.CellLemmas.{state_fact}
