@@ -1,0 +1,5 @@
+pub mod Example
+pub mod Handlers
+pub mod Laws
+pub mod Names
+pub mod Net

@@ -1,0 +1,18 @@
+//! Laws over the definitions, each the contract of a function that does nothing.
+ghost use Rattle.amdl_check.specs.Example.{NetOfOnce};
+ghost use Rattle.amdl_check.specs.Laws.{StatementsAreNumbered};
+
+use box_handlers::{bodies_are_read, formulas_are_read};
+
+/// What each statement, alternative, literal and guard comes to.
+pub fn statements_are_numbered()
+    ensures { StatementsAreNumbered }
+{}
+
+/// The network of a gate that opens once.
+pub fn net_of_once()
+    ensures { NetOfOnce }
+{
+    bodies_are_read();
+    formulas_are_read();
+}
