@@ -1,2 +1,3 @@
 mod ExampleLemmas
+mod MarkedLemmas
 pub mod NumberedLemmas

@@ -1,5 +1,6 @@
 pub mod Example
 pub mod Handlers
 pub mod Laws
+pub mod Marked
 pub mod Names
 pub mod Net

@@ -1,5 +1,6 @@
 //! Laws over the definitions, each the contract of a function that does nothing.
 ghost use Rattle.amdl_check.specs.Example.{NetOfOnce};
+ghost use Rattle.amdl_check.specs.Marked.{NetOfMarked};
 ghost use Rattle.amdl_check.specs.Laws.{StatementsAreNumbered};
 
 use box_handlers::{bodies_are_read, formulas_are_read};
@@ -12,6 +13,14 @@ pub fn statements_are_numbered()
 /// The network of a gate that opens once.
 pub fn net_of_once()
     ensures { NetOfOnce }
+{
+    bodies_are_read();
+    formulas_are_read();
+}
+
+/// The network of two boxes of two classes.
+pub fn net_of_marked()
+    ensures { NetOfMarked }
 {
     bodies_are_read();
     formulas_are_read();

@@ -3,4 +3,4 @@
 
 mod laws;
 
-pub use laws::{net_of_once, statements_are_numbered};
+pub use laws::{net_of_marked, net_of_once, statements_are_numbered};
