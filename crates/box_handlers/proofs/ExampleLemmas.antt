@@ -1,11 +1,11 @@
 -- The handlers of the examples, read as plain data.
-use Rattle.std.proofs.Common.{◌≡◌, ℕ, true, List, [], ◌∷◌, ◌++◌, refl, ap, ◌∙◌}
+use Rattle.std.proofs.Common.{◌≡◌, true, List, [], ◌∷◌, ◌++◌, refl, ap, ◌∙◌}
 use Rattle.box_handlers.specs.declared.act.Term.TheVariants.{Field, Value, Picked}
 use Rattle.box_handlers.specs.declared.act.Probe.{Probe}
 use Rattle.box_handlers.specs.declared.act.Probe.TheVariants.{Has, Not}
 use Rattle.box_handlers.specs.declared.act.Act.{Act}
 use Rattle.box_handlers.specs.declared.act.Act.TheVariants.{Insert, Abort, Pick}
-use Rattle.box_handlers.specs.Body.{Formula, Holds, Denied, Both, Every, Either, Neither, Body, Stop, Writes, Halt, Fork, Each, Branches, NoBranch, OneBranch, formula_of, formula_of_probe, body_of, branches_of}
+use Rattle.box_handlers.specs.Body.{Formula, Holds, Denied, Both, Every, Either, Neither, Body, Stop, Writes, Halt, Fork, Each, NoBranch, OneBranch, formula_of, formula_of_probe, body_of}
 use Rattle.box_handlers.specs.Example.{of_one, of_two, asks, nested, plain, NestedQueries, NestedSizes, TuplesByHand}
 use Rattle.box_handlers.specs.Queries.{asked_by, first_occurrences}
 use Rattle.box_handlers.specs.Size.{literals_of, statements_of, paths_of}

@@ -3,3 +3,4 @@ mod AskedLemmas
 mod FillLemmas
 mod ExampleLemmas
 mod MemberLemmas
+mod FitLemmas

@@ -1,13 +1,10 @@
 -- Handlers by hand: what they ask, in which order, and how large they are.
 use Rattle.std.specs.Prelude.{◌≡◌, ℕ, List, [], ◌∷◌}
-use Rattle.box_contents.specs.declared.entry.Entry.{Entry}
 use Rattle.box_handlers.specs.declared.act.Term.{Term}
 use Rattle.box_handlers.specs.declared.act.Term.TheVariants.{Field, Value, Picked}
-use Rattle.box_handlers.specs.declared.act.Change.{Change}
 use Rattle.box_handlers.specs.declared.act.Query.{Query}
 use Rattle.box_handlers.specs.declared.act.Probe.{Probe}
 use Rattle.box_handlers.specs.declared.act.Probe.TheVariants.{Has, Not}
-use Rattle.box_handlers.specs.declared.act.Branch.{Branch}
 use Rattle.box_handlers.specs.declared.act.Act.{Act}
 use Rattle.box_handlers.specs.declared.act.Act.TheVariants.{Insert, Abort, Choose, Pick}
 use Rattle.box_handlers.specs.Body.{body_of}

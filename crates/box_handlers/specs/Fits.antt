@@ -75,3 +75,9 @@ abbrev mutual
   BranchesFit around NoBranch picks = Unit {0}
   BranchesFit around (OneBranch guard body more) picks =
       FormulaFits around picks guard × Fits around body picks × BranchesFit around more picks
+
+-- values of the picks around a block, each below the number of values of its pick
+abbrev pub ArePicked : List ℕ → List ℕ → Type 0
+ArePicked [] [] = Unit {0}
+ArePicked (size ∷ picks) (value ∷ picked) = (value < size) × ArePicked picks picked
+ArePicked _ _ = ⊥

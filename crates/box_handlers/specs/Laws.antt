@@ -4,7 +4,7 @@ use Rattle.std.specs.List.{All, AllPairs, Contains}
 use Rattle.box_handlers.specs.declared.act.Query.{Query}
 use Rattle.box_handlers.specs.declared.act.Act.{Act}
 use Rattle.box_handlers.specs.Body.{body_of}
-use Rattle.box_handlers.specs.Fits.{Surroundings, Fits}
+use Rattle.box_handlers.specs.Fits.{Surroundings, QueryFits, Fits}
 use Rattle.box_handlers.specs.Queries.{filled, same_query, queries_of, Asks, NamesNoPick}
 use Rattle.box_handlers.specs.Tuple.{tuple_of}
 
@@ -33,3 +33,9 @@ abbrev pub QueriesNameNoPick : Type 0
 QueriesNameNoPick =
     (around : Surroundings) (handlers : List (List Act)) →
     All (λ acts. Fits around (body_of acts) []) handlers → All NamesNoPick (queries_of handlers)
+
+-- and fit where no pick is open
+abbrev pub QueriesFit : Type 0
+QueriesFit =
+    (around : Surroundings) (handlers : List (List Act)) →
+    All (λ acts. Fits around (body_of acts) []) handlers → All (QueryFits around []) (queries_of handlers)

@@ -1,7 +1,7 @@
 //! Laws over the definitions, each the contract of a function that does nothing.
 ghost use Rattle.box_handlers.specs.Body.{BodiesAreRead, FormulasAreRead};
 ghost use Rattle.box_handlers.specs.Example.{NestedQueries, NestedSizes, TuplesByHand};
-ghost use Rattle.box_handlers.specs.Laws.{SameQueryIsEqual, QueriesDiffer, QueriesHoldAllAsked, FilledHasSameTuple, QueriesNameNoPick};
+ghost use Rattle.box_handlers.specs.Laws.{SameQueryIsEqual, QueriesDiffer, QueriesHoldAllAsked, FilledHasSameTuple, QueriesNameNoPick, QueriesFit};
 
 /// How each statement, each branch and the end of a block are read.
 pub fn bodies_are_read()
@@ -36,6 +36,11 @@ pub fn filled_has_same_tuple()
 /// The queries of handlers that fit name no pick.
 pub fn queries_name_no_pick()
     ensures { QueriesNameNoPick }
+{}
+
+/// The queries of handlers that fit do fit where no pick is open.
+pub fn queries_fit()
+    ensures { QueriesFit }
 {}
 
 /// What a class asks whose handlers have picks within picks.

@@ -8,6 +8,6 @@ mod laws;
 pub use act::{Act, Branch, Change, Probe, Query, Term, Test};
 pub use laws::{
     bodies_are_read, filled_has_same_tuple, formulas_are_read, nested_queries, nested_sizes,
-    queries_differ, queries_hold_all_asked, queries_name_no_pick, same_query_is_equal,
+    queries_differ, queries_fit, queries_hold_all_asked, queries_name_no_pick, same_query_is_equal,
     tuples_by_hand,
 };

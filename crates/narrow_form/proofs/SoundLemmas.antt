@@ -17,7 +17,7 @@ use Rattle.amdl_tree.specs.declared.tree.Tree.{Tree}
 use Rattle.net_plan.specs.declared.plan.Plan.{Plan}
 use Rattle.net_plan.specs.Net.{same_name, number_of}
 use Rattle.net_plan.specs.Plan.{size_of, sizes_of}
-use Rattle.net_plan.specs.Sound.{AreApart, IsKind, IsField, IsPattern, IsHost, IsLink, IsClass, IsBox, IsSmallClass, IsSmallBox, IsSound}
+use Rattle.net_plan.specs.Sound.{AreApart, IsKind, IsField, IsPattern, IsHost, IsLink, IsClass, IsBox, IsSmallClass, IsSmallBox, IsHandled, IsSound}
 use Rattle.narrow_form.specs.declared.parts.Parts.{Parts}
 use Rattle.narrow_form.specs.NarrowForm.{field_item, wiring_of, items_of, IsFit, IsDeclaredHost, IsNarrowPattern}
 use Rattle.narrow_form.specs.NarrowPlan.{only_kind, field_plan, fixed_by, pattern_of_equals, said, host_plan, host_number, only_link, narrow_plan}
@@ -226,6 +226,7 @@ sound_by name parts named names fit =
         links = lit≤ tt;
         cells = (let two_ends : product (sizes_of (narrow_plan name parts)) * 2 ≤ 4194304 = omega arith in two_ends);
       };
+      handlers = All-nil (IsHandled plan);
     }
 
 -- the plan of a tree that is well built and of parts that fit together

@@ -4,6 +4,8 @@ use Rattle.std.specs.Prelude.{◌≡◌, ℕ, ◌<◌, ◌^◌, List, [], Option
 use Rattle.std.specs.List.{Any}
 use Rattle.header_set.specs.Headers.{product}
 use Rattle.header_set.specs.Pattern.{Matches}
+use Rattle.box_handlers.specs.Fits.{Surroundings}
+use Rattle.box_handlers.specs.Tuple.{tuples_over}
 use Rattle.net_plan.specs.declared.plan.Plan.{Plan}
 use Rattle.net_plan.specs.declared.plan.KindPlan.{KindPlan}
 use Rattle.net_plan.specs.declared.plan.FieldPlan.{FieldPlan}
@@ -42,9 +44,21 @@ sizes_of plan = map (size_of plan) plan.fields
 abbrev pub packets_of : Plan → ℕ
 packets_of plan = product (sizes_of plan)
 
--- a tuple of a relation is a number below this: the product of the numbers of values of its argument types
+-- the numbers of values of the argument types of a relation, and their product, below which each of its tuples is
+abbrev pub arguments_of : Plan → RelationPlan → List ℕ
+arguments_of plan relation = map (values_of plan) relation.kinds
+
 abbrev pub tuples_of : Plan → RelationPlan → ℕ
-tuples_of plan relation = product (map (values_of plan) relation.kinds)
+tuples_of plan relation = tuples_over (arguments_of plan relation)
+
+-- what the handlers of a class see of the plan and of the class
+abbrev pub surroundings_of : Plan → ClassPlan → Surroundings
+surroundings_of plan class = record {
+  sizes = map (λ kind. length kind.values) plan.kinds;
+  fields = map (λ field. field.kind) plan.fields;
+  relations = map (λ relation. relation.kinds) class.relations;
+  ports = length class.ports;
+}
 
 abbrev pub boxes_of : Plan → ℕ
 boxes_of plan = length plan.boxes

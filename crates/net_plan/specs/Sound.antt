@@ -6,6 +6,10 @@ use Rattle.header_set.specs.Headers.{IsHeaders}
 use Rattle.header_set.specs.Pattern.{fixed_at}
 use Rattle.box_contents.specs.declared.entry.Entry.{Entry}
 use Rattle.box_contents.specs.Contents as contents
+use Rattle.box_handlers.specs.Body.{body_of}
+use Rattle.box_handlers.specs.Fits.{Fits}
+use Rattle.box_handlers.specs.Queries.{queries_of}
+use Rattle.box_handlers.specs.Size.{statements_of_all, literals_of_all, paths_of}
 use Rattle.net_plan.specs.declared.plan.Plan.{Plan}
 use Rattle.net_plan.specs.declared.plan.KindPlan.{KindPlan}
 use Rattle.net_plan.specs.declared.plan.FieldPlan.{FieldPlan}
@@ -14,7 +18,7 @@ use Rattle.net_plan.specs.declared.plan.RelationPlan.{RelationPlan}
 use Rattle.net_plan.specs.declared.plan.HostPlan.{HostPlan}
 use Rattle.net_plan.specs.declared.plan.BoxPlan.{BoxPlan}
 use Rattle.net_plan.specs.declared.plan.LinkPlan.{LinkPlan}
-use Rattle.net_plan.specs.Plan.{sizes_of, tuples_of, class_of}
+use Rattle.net_plan.specs.Plan.{sizes_of, tuples_of, class_of, surroundings_of}
 use Rattle.net_plan.specs.Ends.{ends_of}
 use Rattle.net_plan.specs.Cells.{cells_of}
 
@@ -132,9 +136,20 @@ pub record HasLimits (plan : Plan) : Type 0 where
   pub links : length plan.links ≤ ends_of plan
   pub cells : cells_of plan ≤ 4194304
 
+-- a class has one handler for each of its ports; each fits with no pick around it, the queries are what they ask, and they are
+-- within the limits
+pub record IsHandled (plan : Plan) (class : ClassPlan) : Type 0 where
+  pub one_each : length class.handlers ≡ length class.ports
+  pub fits : All (λ acts. Fits (surroundings_of plan class) (body_of acts) []) class.handlers
+  pub queries : class.queries ≡ queries_of class.handlers
+  pub statements : statements_of_all class.handlers ≤ 1024
+  pub literals : literals_of_all class.handlers ≤ 4096
+  pub paths : All (λ acts. paths_of (body_of acts) ≤ 1024) class.handlers
+
 pub record IsSound (plan : Plan) : Type 0 where
   pub headers : HasHeaders plan
   pub names : HasNamesApart plan
   pub classes : HasClasses plan
   pub wiring : IsWired plan
   pub limits : HasLimits plan
+  pub handlers : All (IsHandled plan) plan.classes
