@@ -41,7 +41,7 @@ impl Contents {
     pub fn holds(&self, entry: Entry) -> bool
         ensures { result ≡ holds_entry self.now entry }
     {
-        place_of(self.entries(), entry).is_ok()
+        is_among(self.entries(), entry)
     }
 
     /// Puts an entry in. The Ok value is whether it was absent. After want of memory the contents are as before.
@@ -90,6 +90,14 @@ impl Contents {
             Err(_) => Err(NoMemory),
         }
     }
+}
+
+/// Whether the entry is among these, which rise. Logarithmic in the entries.
+pub fn is_among(entries: &[Entry], entry: Entry) -> bool
+    requires { IsRising entries.now }
+    ensures { result ≡ holds_entry entries.now entry }
+{
+    place_of(entries, entry).is_ok()
 }
 
 // The place of the entry, or that at which it would stand.

@@ -5,7 +5,7 @@ mod contents;
 mod entry;
 mod laws;
 
-pub use contents::Contents;
+pub use contents::{Contents, is_among};
 pub use entry::Entry;
 pub use laws::{
     held_is_member, held_with, held_without, rising_is_settled, with_keeps_rising,

@@ -6,3 +6,4 @@ mod PartnerLemmas
 pub mod Rising
 mod StateLemmas
 mod TableLemmas
+mod ReadLemmas

@@ -6,4 +6,5 @@ pub mod Kept
 pub mod Laws
 pub mod Net
 pub mod Plan
+pub mod Reading
 pub mod Sound

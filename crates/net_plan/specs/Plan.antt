@@ -1,8 +1,8 @@
 -- What a plan says: its types, fields and classes, and what its hosts may send and must not get. What is read by a number
 -- means something where the number is in range.
 use Rattle.std.specs.Prelude.{◌≡◌, ℕ, ◌<◌, ◌^◌, List, [], Option, length, map, slice_index_or}
-use Rattle.std.specs.List.{Any}
-use Rattle.header_set.specs.Headers.{product}
+use Rattle.std.specs.List.{Any, range_with_len}
+use Rattle.header_set.specs.Headers.{product, field_of}
 use Rattle.header_set.specs.Pattern.{Matches}
 use Rattle.box_handlers.specs.Fits.{Surroundings}
 use Rattle.box_handlers.specs.Tuple.{tuples_over}
@@ -62,6 +62,14 @@ surroundings_of plan class = record {
 
 abbrev pub boxes_of : Plan → ℕ
 boxes_of plan = length plan.boxes
+
+-- the relation of a number
+abbrev pub relation_at : ClassPlan → ℕ → RelationPlan
+relation_at class relation = slice_index_or class.relations relation (record { name = []; kinds = [] })
+
+-- the values of the fields of a packet
+abbrev pub fields_at : Plan → ℕ → List ℕ
+fields_at plan packet = map (field_of (sizes_of plan) packet) (range_with_len 0 (length plan.fields))
 
 -- the plan has no box
 abbrev pub HasNoBox : Plan → Type 0

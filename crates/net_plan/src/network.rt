@@ -4,11 +4,12 @@ ghost use Rattle.net_plan.specs.Cells.{IsInRange};
 ghost use Rattle.header_set.specs.Headers.{product};
 ghost use Rattle.header_set.specs.Pattern.{Matches};
 ghost use Rattle.std.specs.List.{Any};
-ghost use Rattle.net_plan.specs.Sound.{IsSound};
+ghost use Rattle.net_plan.specs.Sound.{IsClass, IsHandled, IsSound};
 ghost use Rattle.net_plan.specs.Follows.{IsBad, IsForbiddenDelivery};
 ghost use Rattle.net_plan.specs.Ends.{ends_of, IsEndAt};
 
 mod finding;
+mod handlers;
 mod numbering;
 
 use crate::fact::{Fact, Place};
@@ -298,7 +299,10 @@ impl Network {
         requires { b < boxes_of self.now }
         ensures class { result.now ≡ class_of self.now (box_at self.now b) }
         ensures few_ports { length result.now.ports ≤ 32 }
+        ensures few_relations { length result.now.relations ≤ 16 }
         ensures few_queries { length result.now.queries ≤ 12 }
+        ensures sound { IsClass self.now result.now }
+        ensures handled { IsHandled self.now result.now }
     {
         let class = self.boxed(b).class;
         &self.plan.classes.as_slice()[class as usize]
