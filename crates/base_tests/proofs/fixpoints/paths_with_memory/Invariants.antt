@@ -1,5 +1,5 @@
 -- The ledger of each call is that of its blank.
-use Rattle.amdl_tests.proofs.fixpoints.paths_with_memory.Given as goal
+use Rattle.base_tests.proofs.fixpoints.paths_with_memory.Given as goal
 
 abbrev pub ghosts-remembered_paths : goal.ghosts-remembered_paths
 ghosts-remembered_paths g a = record { name = a.blank.name; parts = a.blank.parts }

@@ -1,5 +1,5 @@
 -- The ledger of each call is that of its blank.
-use Rattle.amdl_tests.proofs.fixpoints.paths_without_memory.Given as goal
+use Rattle.base_tests.proofs.fixpoints.paths_without_memory.Given as goal
 
 abbrev pub ghosts-paths : goal.ghosts-paths
 ghosts-paths g a = record { name = a.blank.name; parts = a.blank.parts }
