@@ -1,3 +1,6 @@
 mod ExampleLemmas
+mod FormLemmas
 mod MarkedLemmas
+mod NameLemmas
 pub mod NumberedLemmas
+mod StepLemmas

@@ -4,3 +4,4 @@ pub mod Laws
 pub mod Marked
 pub mod Names
 pub mod Net
+pub mod Tables
