@@ -3,4 +3,5 @@ mod FormLemmas
 mod MarkedLemmas
 mod NameLemmas
 pub mod NumberedLemmas
+mod QueryLemmas
 mod StepLemmas

@@ -1,4 +1,5 @@
 pub mod Example
+pub mod Gathered
 pub mod Handlers
 pub mod Laws
 pub mod Marked
