@@ -19,7 +19,7 @@ use std::alloc::Global;
 /// For each port linear in the handlers, and for each name in them linear in the picks around it, the fields, the
 /// values, the relations and the ports. A number that doesn't fit 32 bits is refused as want of memory.
 #[tactic(auto, using(crate::proofs::StepLemmas::all_begun, crate::proofs::StepLemmas::all_more, crate::proofs::StepLemmas::all_lost, crate::proofs::StepLemmas::all_came))]
-pub fn handlers_of(
+pub(crate) fn handlers_of(
     alloc: Global,
     tables: &Tables,
     handlers: &[Handler],

@@ -17,7 +17,7 @@ use std::alloc::Global;
 /// but for one thing: each query that is asked is compared with all queries so far, however many these are. A value of
 /// a pick costs a copy of the values of the picks around it.
 #[tactic(auto, using(crate::proofs::QueryLemmas::handlers_more, crate::proofs::QueryLemmas::handlers_done))]
-pub fn queries_of(alloc: Global, handlers: &[List<Act>]) -> Result<List<Query>, NoMemory>
+pub(crate) fn queries_of(alloc: Global, handlers: &[List<Act>]) -> Result<List<Query>, NoMemory>
     ensures { IfOk result (λ queries. queries ≡ queries_of handlers.now) }
 {
     same_query_is_equal();
