@@ -1,9 +1,7 @@
 -- The networks of the examples.
-use Rattle.std.proofs.Common.{◌≡◌, ℕ, false, List, [], ◌∷◌, ◌++◌, Option, Some, refl, ap, ◌∙◌, codes}
-use Rattle.amdl_tree.specs.declared.guard.Lit.TheVariants.{Has}
+use Rattle.std.proofs.Common.{◌≡◌, false, [], ◌∷◌, ◌++◌, Some, refl, ap, ◌∙◌}
 use Rattle.amdl_tree.specs.declared.guard.Lit.TheViews.{outs-Has}
 use Rattle.amdl_tree.specs.declared.statement.Stmt.TheViews.{outs-Choose, outs-Output, outs-Remove}
-use Rattle.box_handlers.specs.declared.act.Act.{Act}
 use Rattle.box_handlers.specs.declared.act.Probe.TheVariants as probe
 use Rattle.box_handlers.specs.declared.act.Act.TheVariants as act
 use Rattle.box_handlers.specs.Body.{Holds, Both, Every, Either, Neither, Body, Stop, Writes, Emit, Fork, NoBranch, OneBranch, formula_of, body_of, BodiesAreRead, FormulasAreRead}

@@ -1,14 +1,13 @@
 -- The network with a marker.
-use Rattle.std.proofs.Common.{◌≡◌, ℕ, true, List, [], ◌∷◌, ◌++◌, Some, refl, ap, ◌∙◌, codes}
+use Rattle.std.proofs.Common.{◌≡◌, true, List, [], ◌∷◌, ◌++◌, Some, refl, ap, ◌∙◌}
 use Rattle.amdl_tree.specs.declared.guard.Lit.TheViews.{outs-Has}
 use Rattle.amdl_tree.specs.declared.statement.Stmt.TheVariants.{Abort}
 use Rattle.amdl_tree.specs.declared.statement.Stmt.TheViews.{outs-Insert, outs-Output, outs-Abort, outs-Choose, outs-Pick}
 use Rattle.box_handlers.specs.declared.act.Change.{Change}
 use Rattle.box_handlers.specs.declared.act.Query.{Query}
 use Rattle.box_handlers.specs.declared.act.Term.TheVariants as term
-use Rattle.box_handlers.specs.declared.act.Probe.TheVariants as probe
 use Rattle.box_handlers.specs.declared.act.Act.TheVariants as act
-use Rattle.box_handlers.specs.Body.{Holds, Both, Every, Either, Neither, Body, Stop, Writes, Emit, Halt, Fork, Each, NoBranch, OneBranch, formula_of, body_of, BodiesAreRead, FormulasAreRead}
+use Rattle.box_handlers.specs.Body.{Holds, Both, Every, Either, Neither, Body, Stop, Writes, Emit, Fork, Each, NoBranch, OneBranch, formula_of, body_of, BodiesAreRead, FormulasAreRead}
 use Rattle.box_handlers.specs.Queries.{asked_by, first_occurrences, queries_of}
 use Rattle.amdl_check.specs.Names.{joined}
 use Rattle.amdl_check.specs.Handlers.{acts_of, handlers_of}

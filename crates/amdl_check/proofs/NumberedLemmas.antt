@@ -1,5 +1,5 @@
 -- How the parts of a handler are numbered, one equation for each kind of part.
-use Rattle.std.proofs.Common.{◌≡◌, ℕ, List, [], ◌∷◌, ◌++◌, map, Option, Some, None, refl, ap, ◌∙◌}
+use Rattle.std.proofs.Common.{◌≡◌, ℕ, List, [], ◌∷◌, ◌++◌, map, Option, refl, ap, ◌∙◌}
 use Rattle.std.specs.Option.{option_map}
 use Rattle.amdl_tree.specs.declared.guard.Guard.{Guard}
 use Rattle.amdl_tree.specs.declared.guard.Lit.{Lit}
@@ -17,7 +17,7 @@ use Rattle.box_handlers.specs.declared.act.Act.{Act}
 use Rattle.box_handlers.specs.declared.act.Act.TheVariants as act
 use Rattle.box_handlers.specs.declared.act.Branch.{Branch}
 use Rattle.amdl_check.specs.Names.{joined, all_some, values_named}
-use Rattle.amdl_check.specs.Handlers.{Known, as_it_is, lit_numbered, guard_numbered, lit_layer, guard_layer, probe_of, test_of, Within, all_within, stmt_numbered, branch_numbered, stmt_layer, alternative_layer, act_of, branch_of}
+use Rattle.amdl_check.specs.Handlers.{Known, as_it_is, lit_numbered, guard_numbered, lit_layer, guard_layer, probe_of, test_of, Within, stmt_numbered, branch_numbered, stmt_layer, alternative_layer, act_of, branch_of}
 use Rattle.amdl_check.specs.Laws.{StatementsAreNumbered}
 
 -- parts that are numbered first, and then all taken together

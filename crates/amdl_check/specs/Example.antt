@@ -1,5 +1,5 @@
 -- The network of a text by hand: a gate that opens once, whose one box starts with a tuple.
-use Rattle.std.specs.Prelude.{◌≡◌, ℕ, List, [], ◌∷◌, Option, Some, None, codes, replicate}
+use Rattle.std.specs.Prelude.{◌≡◌, List, [], ◌∷◌, Some, None, codes, replicate}
 use Rattle.amdl_tree.specs.declared.guard.Lit.TheVariants.{Has}
 use Rattle.amdl_tree.specs.declared.statement.Stmt.{Stmt}
 use Rattle.amdl_tree.specs.declared.statement.Stmt.TheVariants.{Remove, Output, Choose}

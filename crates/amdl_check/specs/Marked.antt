@@ -1,6 +1,6 @@
 -- The network of a text by hand: two types, two classes, of which one has its handlers in another order than its ports and no handler
 -- stands in the other, a box that starts with tuples out of order and twice, and hosts with several patterns.
-use Rattle.std.specs.Prelude.{◌≡◌, ℕ, List, [], ◌∷◌, ◌++◌, Option, Some, None, codes, replicate}
+use Rattle.std.specs.Prelude.{◌≡◌, ℕ, List, [], ◌∷◌, Some, None, codes, replicate}
 use Rattle.header_set.specs.Pattern.{any_pattern}
 use Rattle.amdl_tree.specs.declared.guard.Atom.{Atom}
 use Rattle.amdl_tree.specs.declared.guard.Lit.TheVariants.{Has}

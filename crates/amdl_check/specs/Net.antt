@@ -1,5 +1,5 @@
 -- The network that the items of a text spell: a plan, or nothing where a name stands for nothing.
-use Rattle.std.specs.Prelude.{ℕ, ◌&&◌, Bool, true, false, List, [], ◌∷◌, Option, Some, None, nat_eq, map, fold, slice_get, slice_set}
+use Rattle.std.specs.Prelude.{ℕ, ◌&&◌, Bool, false, List, [], ◌∷◌, Option, Some, None, nat_eq, map, fold, slice_get, slice_set}
 use Rattle.std.specs.List.{filter, position_from}
 use Rattle.std.specs.Option.{option_map, option_and_then}
 use Rattle.header_set.specs.Pattern.{any_pattern}
@@ -28,7 +28,7 @@ use Rattle.net_plan.specs.declared.plan.LinkPlan.{LinkPlan}
 use Rattle.net_plan.specs.declared.fact.Place.{Place}
 use Rattle.net_plan.specs.declared.fact.Place.TheVariants.{Host, Port}
 use Rattle.net_plan.specs.Ends.{places_of}
-use Rattle.amdl_check.specs.Names.{same_name, number_of, joined, all_some, kind_number, kind_named, value_number, values_named}
+use Rattle.amdl_check.specs.Names.{same_name, number_of, joined, all_some, kind_number, kind_named, values_named}
 use Rattle.amdl_check.specs.Handlers.{Known, handlers_of}
 
 -- types in their order, each with its values
