@@ -3,7 +3,17 @@ ghost use Rattle.std.specs.List.{flat_map};
 ghost use Rattle.amdl_tree.specs.Appends.{Keeps};
 ghost use Rattle.amdl_format.specs.Lines.{blanks, line_at};
 
-use amdl_tree::{NoMemory, put_all};
+use amdl_tree::NoMemory;
+
+/// Appends the pieces in turn. Linear in their bytes.
+///
+/// Says less than the call that it makes: no layout needs to know which part was put when memory ran out.
+pub(crate) fn put_all(out: &mut Vec<u8>, pieces: &[&[u8]]) -> Result<(), NoMemory>
+    ensures ok { OnOk result (out.new.items ≡ out.old.items ++ flat_map (λ piece. piece.now) pieces.now) }
+    ensures kept { Keeps out.old.items out.new.items }
+{
+    amdl_tree::put_all(out, pieces)
+}
 
 /// Appends two blanks for each level. Linear in the levels.
 #[tactic(auto, using(crate::proofs::LineLemmas::blanks_more))]

@@ -4,8 +4,9 @@ ghost use Rattle.amdl_tree.specs.NetworkFile.{IsFileOf};
 ghost use Rattle.amdl_tree.specs.WellBuilt.{IsShaped};
 ghost use Rattle.amdl_tree.specs.Appends.{Keeps};
 
+use crate::append::put_all;
 use crate::items::put_item;
-use amdl_tree::{NoMemory, Tree, layout_is_file, put_all};
+use amdl_tree::{NoMemory, Tree, layout_is_file};
 
 /// Appends the canonical layout of a tree, which is a network file of it. Linear in the bytes of the layout.
 ///

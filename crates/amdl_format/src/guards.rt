@@ -2,8 +2,9 @@ ghost use Rattle.std.specs.Prelude.{◌≡◌, ◌++◌, codes, OnOk};
 ghost use Rattle.amdl_tree.specs.Layout.{joined, layout_of_atom, layout_of_guard, layout_of_lit};
 ghost use Rattle.amdl_tree.specs.Appends.{Keeps};
 
+use crate::append::put_all;
 use crate::parts::put_atom;
-use amdl_tree::{Atom, Guard, Lit, Name, NoMemory, put_all};
+use amdl_tree::{Atom, Guard, Lit, Name, NoMemory};
 
 /// Appends a guard. Linear in its parts.
 #[tactic(auto, using(amdl_tree::proofs::AppendLemmas::keeps_same, crate::proofs::ListLemmas::led_step_twice, crate::proofs::ListLemmas::led_joined, amdl_tree::proofs::LineLemmas::guard_layout))]

@@ -5,10 +5,10 @@ ghost use Rattle.amdl_tree.specs.Appends.{Keeps};
 ghost use Rattle.amdl_tree.specs.WellBuilt.{ClassFits, HandlerFits, ItemFits};
 ghost use Rattle.amdl_format.specs.Lines.{line_at, text_at};
 
-use crate::append::put_line;
+use crate::append::{put_all, put_line};
 use crate::parts::{put_end, put_first, put_names, put_pattern, put_tuple};
 use crate::statements::put_block;
-use amdl_tree::{Atom, Class, End, Equal, Handler, Item, Name, NoMemory, Relation, put_all};
+use amdl_tree::{Atom, Class, End, Equal, Handler, Item, Name, NoMemory, Relation};
 
 /// Appends an item with the end of its last line. Linear in its parts, and for each line in its levels.
 pub(crate) fn put_item(item: &Item, out: &mut Vec<u8>) -> Result<(), NoMemory>

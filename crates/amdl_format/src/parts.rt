@@ -2,7 +2,8 @@ ghost use Rattle.std.specs.Prelude.{◌≡◌, ◌++◌, codes, map, OnOk};
 ghost use Rattle.amdl_tree.specs.Layout.{listed, layout_of_atom, layout_of_changes, layout_of_end, layout_of_equal, layout_of_first, layout_of_pattern};
 ghost use Rattle.amdl_tree.specs.Appends.{Keeps};
 
-use amdl_tree::{Atom, End, Equal, Name, NoMemory, put_all};
+use crate::append::put_all;
+use amdl_tree::{Atom, End, Equal, Name, NoMemory};
 
 /// Appends names with commas between. Linear in the names, as each of these is in its parts.
 #[tactic(auto, using(amdl_tree::proofs::AppendLemmas::keeps_same, crate::proofs::ListLemmas::led_step, crate::proofs::ListLemmas::led_names))]

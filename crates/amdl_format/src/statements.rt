@@ -5,10 +5,10 @@ ghost use Rattle.amdl_tree.specs.Appends.{Keeps};
 ghost use Rattle.amdl_tree.specs.WellBuilt.{AlternativeFits, StmtFits};
 ghost use Rattle.amdl_format.specs.Lines.{branch_behind, branches_behind, line_at, text_at};
 
-use crate::append::{put_blanks, put_line};
+use crate::append::{put_all, put_blanks, put_line};
 use crate::guards::put_guard;
 use crate::parts::{put_atom, put_changes};
-use amdl_tree::{Alternative, Atom, Equal, Guard, Name, NoMemory, Stmt, put_all};
+use amdl_tree::{Alternative, Atom, Equal, Guard, Name, NoMemory, Stmt};
 
 /// Appends statements one level further in. Linear in their parts, and for each line in its levels.
 #[tactic(auto, using(amdl_tree::proofs::AppendLemmas::keeps_same, crate::proofs::ListLemmas::pieces_step, crate::proofs::LineLemmas::text_of_block))]
