@@ -1,5 +1,6 @@
 -- How texts that are appended in turn, and fronts of them, go on.
-use Rattle.std.proofs.Common.{◌≡◌, ℕ, List, [], ◌∷◌, ◌++◌, ◌+◌, ◌<◌, length, take, drop, get_or, sym, ap, ◌∙◌, append_assoc, append-nil, take-append-drop, add-one, Result, Ok, Err, OnOk, OnErr}
+use Rattle.std.proofs.Common.{◌≡◌, ℕ, List, [], ◌∷◌, ◌++◌, ◌+◌, ◌<◌, length, take, drop, get_or, sym, ap, ◌∙◌}
+use Rattle.std.proofs.Common.{append_assoc, append-nil, take-append-drop, add-one, Result, Ok, Err, OnOk, OnErr}
 use Rattle.std.specs.List.{flat_map}
 use Rattle.std.proofs.lemmas.Result.{on_ok_weaker}
 use Rattle.std.proofs.lemmas.List.Concat.{flat_map-append}
@@ -7,12 +8,14 @@ use Rattle.std.proofs.Math.Seq.{drop-cons}
 use Rattle.amdl_tree.specs.Appends.{AppendsPart, Keeps}
 
 -- one text was appended, and then a front of the next
-pub part_after : (old mid new a b rest text : List ℕ) → mid ≡ old ++ a → text ≡ a ++ (b ++ rest) → AppendsPart mid new b → AppendsPart old new text
+pub part_after : (old mid new a b rest text : List ℕ) → mid ≡ old ++ a → text ≡ a ++ (b ++ rest) →
+    AppendsPart mid new b → AppendsPart old new text
 part_after old mid new a b rest text first whole part = record {
   front = a ++ part.front;
   rest = part.rest ++ rest;
   appended = part.appended ∙ ap (λ t. t ++ part.front) first ∙ append_assoc old a part.front;
-  begun = whole ∙ ap (λ t. a ++ (t ++ rest)) part.begun ∙ ap (λ t. a ++ t) (append_assoc part.front part.rest rest) ∙ sym (append_assoc a part.front (part.rest ++ rest));
+  begun = whole ∙ ap (λ t. a ++ (t ++ rest)) part.begun ∙ ap (λ t. a ++ t) (append_assoc part.front part.rest rest)
+      ∙ sym (append_assoc a part.front (part.rest ++ rest));
 }
 
 -- a front of the first text is a front of the whole
@@ -48,12 +51,16 @@ pub appended_after : (old mid new a b : List ℕ) → mid ≡ old ++ a → new �
 appended_after old mid new a b first second = second ∙ ap (λ t. t ++ b) first ∙ append_assoc old a b
 
 -- a text was appended, and then where all went well another
-pub then_text : {T E : Type 0} (r : Result T E) (old mid new a b whole : List ℕ) → mid ≡ old ++ a → whole ≡ a ++ b → OnOk r (new ≡ mid ++ b) → OnOk r (new ≡ old ++ whole)
+pub then_text : {T E : Type 0} (r : Result T E) (old mid new a b whole : List ℕ) → mid ≡ old ++ a → whole ≡ a ++ b →
+    OnOk r (new ≡ mid ++ b) → OnOk r (new ≡ old ++ whole)
 then_text r old mid new a b whole first parts second =
-    on_ok_weaker r (λ (h : new ≡ mid ++ b). h ∙ ap (λ t. t ++ b) first ∙ append_assoc old a b ∙ ap (λ t. old ++ t) (sym parts)) second
+    on_ok_weaker r
+    (λ (h : new ≡ mid ++ b). h ∙ ap (λ t. t ++ b) first ∙ append_assoc old a b
+    ∙ ap (λ t. old ++ t) (sym parts)) second
 
 -- the first i pieces, and the others
-pub pieces_split : {X : Type 0} (f : X → List ℕ) (xs : List X) (i : ℕ) → flat_map f xs ≡ flat_map f (take i xs) ++ flat_map f (drop i xs)
+pub pieces_split : {X : Type 0} (f : X → List ℕ) (xs : List X) (i : ℕ) →
+    flat_map f xs ≡ flat_map f (take i xs) ++ flat_map f (drop i xs)
 pieces_split f xs i = ap (flat_map f) (sym (take-append-drop i xs)) ∙ flat_map-append f (take i xs) (drop i xs)
 
 -- the first i pieces, the next one, and the others

@@ -16,7 +16,8 @@ shaped_is_built tree shaped = ((tree_shaped tree).0 shaped).0
 pub one_tree : (text : List ℕ) (t u : Tree) → IsFileOf text t → IsFileOf text u → t ≡ u
 one_tree text t u one two =
     let same : spell t ≡ spell u = stands_once text (spell t) (spell u) one.stands two.stands in
-    (tree_once.once t u [] [] (shaped_is_built t one.shaped) (shaped_is_built u two.shaped) tt tt (ap (λ tokens. tokens ++ []) same)).0
+    (tree_once.once t u [] [] (shaped_is_built t one.shaped) (shaped_is_built u two.shaped) tt tt
+    (ap (λ tokens. tokens ++ []) same)).0
 
 pub layout_file : (tree : Tree) → IsShaped tree → IsFileOf (layout_of_tree tree) tree
 layout_file tree shaped = record { shaped = shaped; stands = tree_stands tree (shaped_is_built tree shaped) }

@@ -1,5 +1,6 @@
 -- Words, numbers and signs: the first byte tells which it is, and where it stops there is none longer.
-use Rattle.std.proofs.Common.{◌≡◌, ◌≤◌, ◌<◌, ℕ, Bool, true, false, ◌&&◌, ◌||◌, List, [], ◌∷◌, ◌++◌, ◌==◌, nat_le, length, drop, refl, sym, ap, ◌∙◌, subst, arith, lit≤, lit<, inl, inr, ◌⊎◌, Option, Some}
+use Rattle.std.proofs.Common.{◌≡◌, ◌≤◌, ◌<◌, ℕ, Bool, true, false, ◌&&◌, ◌||◌, List, [], ◌∷◌, ◌++◌, ◌==◌, nat_le}
+use Rattle.std.proofs.Common.{length, drop, refl, sym, ap, ◌∙◌, subst, arith, lit≤, lit<, inl, inr, ◌⊎◌, Option, Some}
 use Rattle.std.specs.List.{list_all, find}
 use Rattle.std.specs.Str.{bytes_eq}
 use Rattle.std.proofs.lemmas.Bool.{and_parts, or_cases, or_right, leb-true, eqb-true, false≢true}
@@ -9,7 +10,9 @@ use Rattle.amdl_tree.specs.Lexical.{is_blank, IsLexeme, a_word, a_number, a_sign
 use Rattle.amdl_tree.specs.declared.reserved.Reserved.{Reserved}
 use Rattle.amdl_tree.specs.declared.reserved.Reserved.TheVariants.{Network}
 use Rattle.amdl_tree.specs.declared.token.Sign.{Sign}
-use Rattle.amdl_tree.specs.declared.token.Sign.TheVariants.{Semicolon, Colon, Becomes, Comma, Point, OpenBrace, CloseBrace, OpenParen, CloseParen, OpenBracket, CloseBracket, Equals, Differs, Arrow, Dashes, Bar}
+use Rattle.amdl_tree.specs.declared.token.Sign.TheVariants.{Semicolon, Colon, Becomes, Comma, Point, OpenBrace}
+use Rattle.amdl_tree.specs.declared.token.Sign.TheVariants.{CloseBrace, OpenParen, CloseParen, OpenBracket}
+use Rattle.amdl_tree.specs.declared.token.Sign.TheVariants.{CloseBracket, Equals, Differs, Arrow, Dashes, Bar}
 use Rattle.amdl_tree.specs.declared.token.Token.{Token}
 use Rattle.amdl_tree.specs.declared.token.Token.TheVariants.{Word, Number, Key, Sign as Signed}
 use Rattle.amdl_tree.proofs.ReservedWords.{reserved_alike}
@@ -154,27 +157,35 @@ lexeme_not_comment bytes (a_sign sign s) e =
 -- where they stop there is none longer
 pub word_longest : (word after : List ℕ) → IsWord word → StopsRun goes_on_with_word after → IsLongest word after
 word_longest word after is stops other behind e lexeme =
-    let same : first word ≡ first other = firsts_alike word after other behind (word_some word is) (lexeme_some other lexeme) e in
+    let same : first word ≡ first other =
+    firsts_alike word after other behind (word_some word is) (lexeme_some other lexeme) e in
     let starts : starts_word (first other) ≡ true = subst (λ b. starts_word b ≡ true) same (word_first word is) in
     front_le goes_on_with_word word after other behind stops (word-goes_on other (word_by_first other lexeme starts)) e
 
 pub number_longest : (number after : List ℕ) → IsNumber number → StopsRun is_digit after → IsLongest number after
 number_longest number after is stops other behind e lexeme =
-    let same : first number ≡ first other = firsts_alike number after other behind (number_some number is) (lexeme_some other lexeme) e in
+    let same : first number ≡ first other =
+    firsts_alike number after other behind (number_some number is) (lexeme_some other lexeme) e in
     let digit : is_digit (first other) ≡ true = subst (λ b. is_digit b ≡ true) same (number_first number is) in
     front_le is_digit number after other behind stops (number_goes_on other (number_by_first other lexeme digit)) e
 
 -- a sign, where no longer sign stands there
-pub sign_longest : (sign : Sign) (after : List ℕ) → ((other : Sign) (behind : List ℕ) → spelling_of_sign sign ++ after ≡ spelling_of_sign other ++ behind → length (spelling_of_sign other) ≤ length (spelling_of_sign sign)) → IsLongest (spelling_of_sign sign) after
+pub sign_longest : (sign : Sign) (after : List ℕ) →
+    ((other : Sign) (behind : List ℕ) → spelling_of_sign sign ++ after ≡ spelling_of_sign other ++ behind →
+    length (spelling_of_sign other) ≤ length (spelling_of_sign sign)) → IsLongest (spelling_of_sign sign) after
 sign_longest sign after most other behind e (a_word is) =
-    let same : first (spelling_of_sign sign) ≡ first other = firsts_alike (spelling_of_sign sign) after other behind (sign_some sign) (word_some other is) e in
+    let same : first (spelling_of_sign sign) ≡ first other =
+    firsts_alike (spelling_of_sign sign) after other behind (sign_some sign) (word_some other is) e in
     let goes : goes_on_with_word (first other) ≡ true = start_goes_on (first other) (word_first other is) in
-    let stops : goes_on_with_word (first other) ≡ false = subst (λ b. goes_on_with_word b ≡ false) same (sign_first sign) in
+    let stops : goes_on_with_word (first other) ≡ false =
+    subst (λ b. goes_on_with_word b ≡ false) same (sign_first sign) in
     absurd (cc)
 sign_longest sign after most other behind e (a_number is) =
-    let same : first (spelling_of_sign sign) ≡ first other = firsts_alike (spelling_of_sign sign) after other behind (sign_some sign) (number_some other is) e in
+    let same : first (spelling_of_sign sign) ≡ first other =
+    firsts_alike (spelling_of_sign sign) after other behind (sign_some sign) (number_some other is) e in
     let goes : goes_on_with_word (first other) ≡ true = digit_goes_on (first other) (number_first other is) in
-    let stops : goes_on_with_word (first other) ≡ false = subst (λ b. goes_on_with_word b ≡ false) same (sign_first sign) in
+    let stops : goes_on_with_word (first other) ≡ false =
+    subst (λ b. goes_on_with_word b ≡ false) same (sign_first sign) in
     absurd (cc)
 sign_longest sign after most other behind e (a_sign longer s) = rw s (most longer behind (e ∙ ap (λ b. b ++ behind) s))
 
@@ -194,7 +205,8 @@ abbrev pub begins_none : Sign → Bool
 begins_none Colon = false
 begins_none sign = true
 
-short_begins : (sign : Sign) → begins_none sign ≡ true → (2 ≤ length (spelling_of_sign sign)) ⊎ (begins_two (first (spelling_of_sign sign)) ≡ false)
+short_begins : (sign : Sign) → begins_none sign ≡ true →
+    (2 ≤ length (spelling_of_sign sign)) ⊎ (begins_two (first (spelling_of_sign sign)) ≡ false)
 short_begins Colon none = absurd (false≢true none)
 short_begins Becomes none = inl (lit≤ tt)
 short_begins Differs none = inl (lit≤ tt)
@@ -205,7 +217,9 @@ short_begins sign none = inr refl
 -- such a sign is the longest, whatever follows
 pub sign_alone : (sign : Sign) (after : List ℕ) → begins_none sign ≡ true → IsLongest (spelling_of_sign sign) after
 sign_alone sign after none = sign_longest sign after (λ other behind e.
-    let same : first (spelling_of_sign sign) ≡ first (spelling_of_sign other) = firsts_alike (spelling_of_sign sign) after (spelling_of_sign other) behind (sign_some sign) (sign_some other) e in
+    let same : first (spelling_of_sign sign) ≡ first (spelling_of_sign other) =
+    firsts_alike (spelling_of_sign sign) after (spelling_of_sign other) behind (sign_some sign)
+    (sign_some other) e in
     elim (long_begins other) [
       | inl short ↦ omega (arith, sign_some sign)
       | inr two ↦ elim (short_begins sign none) [
@@ -214,7 +228,8 @@ sign_alone sign after none = sign_longest sign after (λ other behind e.
       ]
     ])
 
-colon_most : (other : Sign) (after behind : List ℕ) → 58 ∷ 32 ∷ after ≡ spelling_of_sign other ++ behind → length (spelling_of_sign other) ≤ 1
+colon_most : (other : Sign) (after behind : List ℕ) → 58 ∷ 32 ∷ after ≡ spelling_of_sign other ++ behind →
+    length (spelling_of_sign other) ≤ 1
 colon_most Becomes after behind e = absurd (omega (arith, ap (λ bytes. first (drop 1 bytes)) e))
 colon_most Differs after behind e = absurd (omega (arith, ap first e))
 colon_most Arrow after behind e = absurd (omega (arith, ap first e))
@@ -241,7 +256,8 @@ number_not_word bytes number word = digit_starts_none (first bytes) (number_firs
 
 -- one spelling is that of one token
 abbrev pub signs : List Sign
-signs = Semicolon ∷ Colon ∷ Becomes ∷ Comma ∷ Point ∷ OpenBrace ∷ CloseBrace ∷ OpenParen ∷ CloseParen ∷ OpenBracket ∷ CloseBracket ∷ Equals ∷ Differs ∷ Arrow ∷ Dashes ∷ Bar ∷ []
+signs = Semicolon ∷ Colon ∷ Becomes ∷ Comma ∷ Point ∷ OpenBrace ∷ CloseBrace ∷ OpenParen ∷ CloseParen ∷ OpenBracket
+    ∷ CloseBracket ∷ Equals ∷ Differs ∷ Arrow ∷ Dashes ∷ Bar ∷ []
 
 abbrev pub sign_of : List ℕ → Option Sign
 sign_of bytes = find (λ sign. bytes_eq bytes (spelling_of_sign sign)) signs

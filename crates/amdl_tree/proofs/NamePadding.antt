@@ -5,7 +5,8 @@ use Rattle.std.proofs.Math.Seq.{take-append_seam, drop-append_seam}
 use Rattle.amdl_tree.specs.Word.{IsName}
 use Rattle.amdl_tree.specs.NameBytes.{IsPadded}
 
-pub copied : (name : List ℕ) → IsName name → IsPadded (record { bytes = name ++ drop (length name) (replicate 24 0); len = length name })
+pub copied : (name : List ℕ) → IsName name →
+    IsPadded (record { bytes = name ++ drop (length name) (replicate 24 0); len = length name })
 copied name named = record {
   room =
       let zeros : List ℕ = replicate 24 0 in

@@ -1,11 +1,15 @@
 -- Pieces of a text: at one place stands one piece, so that two readings of a text go on with one another.
-use Rattle.std.proofs.Common.{◌≡◌, ◌≤◌, ◌<◌, ◌+◌, ℕ, Bool, true, List, [], ◌∷◌, ◌++◌, ◌==◌, not, length, drop, map, refl, sym, ap, ◌∙◌, subst, arith, inl, inr, ◌⊎◌, append_assoc, length-append, append-nil, add-zero}
+use Rattle.std.proofs.Common.{◌≡◌, ◌≤◌, ◌<◌, ◌+◌, ℕ, Bool, true, List, [], ◌∷◌, ◌++◌, ◌==◌, not, length, drop, map}
+use Rattle.std.proofs.Common.{refl, sym, ap, ◌∙◌, subst, arith, inl, inr, ◌⊎◌, append_assoc, length-append, append-nil}
+use Rattle.std.proofs.Common.{add-zero}
 use Rattle.std.specs.List.{list_all}
 use Rattle.std.proofs.lemmas.Bool.{false≢true}
 use Rattle.std.proofs.lemmas.List.{append_cancel_left, take-append-drop, length-take-le, drop_all}
 use Rattle.std.proofs.lemmas.Grind.{flat_map-append}
 use Rattle.amdl_tree.specs.Token.{SpellsToken}
-use Rattle.amdl_tree.specs.Lexical.{is_blank, IsComment, EndsLine, IsGap, IsLexeme, Piece, a_gap, a_token, bytes_of_piece, bytes_of, Stands, AllStand, tokens_from, lexed, Reads, token_of, StandsFor}
+use Rattle.amdl_tree.specs.Lexical.{is_blank, IsComment, EndsLine, IsGap, IsLexeme, Piece, a_gap, a_token}
+use Rattle.amdl_tree.specs.Lexical.{bytes_of_piece, bytes_of, Stands, AllStand, tokens_from, lexed, Reads, token_of}
+use Rattle.amdl_tree.specs.Lexical.{StandsFor}
 use Rattle.amdl_tree.specs.declared.token.Token.{Token}
 use Rattle.amdl_tree.specs.declared.token.Lexed.{Lexed}
 use Rattle.amdl_tree.proofs.RunLemmas.{StopsRun, front_le, fronts_alike, first, firsts_alike}
@@ -64,10 +68,12 @@ gaps_alike g a h b (inr comment) (inl other) e =
     absurd (hash_not_blank (first h) (sym same ∙ comment_first g comment.0) (rw other.1 other.2))
 gaps_alike g a h b (inr comment) (inr other) e =
     let one : length h ≤ length g = front_le in_line g a h b (line_stops a comment.1) (comment_in_line h other.0) e in
-    let two : length g ≤ length h = front_le in_line h b g a (line_stops b other.1) (comment_in_line g comment.0) (sym e) in
+    let two : length g ≤ length h =
+    front_le in_line h b g a (line_stops b other.1) (comment_in_line g comment.0) (sym e) in
     (fronts_alike g a h b e (omega arith)).0
 
-spelled_alike : (t u : Token) (s a r b : List ℕ) → Stands (a_token t s) a → Stands (a_token u r) b → s ++ a ≡ r ++ b → a_token t s ≡ a_token u r
+spelled_alike : (t u : Token) (s a r b : List ℕ) → Stands (a_token t s) a → Stands (a_token u r) b → s ++ a ≡ r ++ b →
+    a_token t s ≡ a_token u r
 spelled_alike t u s a r b p q e =
     let one : length r ≤ length s = p.1 r b e (token_lexeme u r q.0) in
     let two : length s ≤ length r = q.1 s a (sym e) (token_lexeme t s p.0) in
@@ -80,7 +86,8 @@ piece_some (a_gap g) after stands = gap_some g after stands
 piece_some (a_token t s) after stands = lexeme_some s (token_lexeme t s stands.0)
 
 -- at one place stands one piece
-pub pieces_alike : (p q : Piece) (a b : List ℕ) → Stands p a → Stands q b → bytes_of_piece p ++ a ≡ bytes_of_piece q ++ b → p ≡ q
+pub pieces_alike : (p q : Piece) (a b : List ℕ) → Stands p a → Stands q b →
+    bytes_of_piece p ++ a ≡ bytes_of_piece q ++ b → p ≡ q
 pieces_alike (a_gap g) (a_gap h) a b s t e = ap a_gap (gaps_alike g a h b s t e)
 pieces_alike (a_gap g) (a_token u r) a b s t e =
     let lexeme : IsLexeme r = token_lexeme u r t.0 in
@@ -105,7 +112,8 @@ pub record GoesOn (fewer more : List Piece) (rest : List ℕ) : Type 0 where
   pub whole : more ≡ fewer ++ others
   pub stand : AllStand others rest
 
-pub comparable : (ps qs : List Piece) (a b : List ℕ) → AllStand ps a → AllStand qs b → bytes_of ps ++ a ≡ bytes_of qs ++ b → GoesOn ps qs b ⊎ GoesOn qs ps a
+pub comparable : (ps qs : List Piece) (a b : List ℕ) → AllStand ps a → AllStand qs b →
+    bytes_of ps ++ a ≡ bytes_of qs ++ b → GoesOn ps qs b ⊎ GoesOn qs ps a
 comparable [] qs a b s t e = inl (record { others = qs; whole = refl; stand = t })
 comparable (p ∷ ps) [] a b s t e = inr (record { others = p ∷ ps; whole = refl; stand = s })
 comparable (p ∷ ps) (q ∷ qs) a b s t e =
@@ -113,13 +121,22 @@ comparable (p ∷ ps) (q ∷ qs) a b s t e =
     sym (append_assoc (bytes_of_piece p) (bytes_of ps) a) ∙ e ∙ append_assoc (bytes_of_piece q) (bytes_of qs) b in
     let same : p ≡ q = pieces_alike p q (bytes_of ps ++ a) (bytes_of qs ++ b) s.0 t.0 whole in
     let tail : bytes_of ps ++ a ≡ bytes_of qs ++ b =
-    append_cancel_left (bytes_of_piece p) (bytes_of ps ++ a) (bytes_of qs ++ b) (whole ∙ ap (λ x. bytes_of_piece x ++ (bytes_of qs ++ b)) (sym same)) in
+    append_cancel_left (bytes_of_piece p) (bytes_of ps ++ a) (bytes_of qs ++ b)
+    (whole ∙ ap (λ x. bytes_of_piece x ++ (bytes_of qs ++ b)) (sym same)) in
     elim (comparable ps qs a b s.1 t.1 tail) [
-      | inl on ↦ inl (record { others = on.others; whole = ap (λ x. x ∷ qs) (sym same) ∙ ap (λ x. p ∷ x) on.whole; stand = on.stand })
-      | inr on ↦ inr (record { others = on.others; whole = ap (λ x. x ∷ ps) same ∙ ap (λ x. q ∷ x) on.whole; stand = on.stand })
+      | inl on ↦ inl
+          (record {
+            others = on.others;
+            whole = ap (λ x. x ∷ qs) (sym same)
+                ∙ ap (λ x. p ∷ x) on.whole;
+            stand = on.stand;
+          })
+      | inr on ↦ inr
+          (record { others = on.others; whole = ap (λ x. x ∷ ps) same ∙ ap (λ x. q ∷ x) on.whole; stand = on.stand })
     ]
 
-pub tokens_from-append : (at : ℕ) (ps qs : List Piece) → tokens_from at (ps ++ qs) ≡ tokens_from at ps ++ tokens_from (at + length (bytes_of ps)) qs
+pub tokens_from-append : (at : ℕ) (ps qs : List Piece) →
+    tokens_from at (ps ++ qs) ≡ tokens_from at ps ++ tokens_from (at + length (bytes_of ps)) qs
 tokens_from-append at [] qs = rw add-zero refl
 tokens_from-append at (a_gap g ∷ ps) qs =
     tokens_from-append (at + length g) ps qs
@@ -130,20 +147,24 @@ tokens_from-append at (a_token t s ∷ ps) qs =
     ∙ ap (λ n. tokens_from (at + length s) ps ++ tokens_from n qs) (omega (arith, length-append s (bytes_of ps))))
 
 -- the whole text from a reading
-pub whole_of : (text : List ℕ) (at : ℕ) (tokens : List Lexed) (r : Reads text at tokens) → text ≡ bytes_of r.pieces ++ drop at text
+pub whole_of : (text : List ℕ) (at : ℕ) (tokens : List Lexed) (r : Reads text at tokens) →
+    text ≡ bytes_of r.pieces ++ drop at text
 whole_of text at tokens r = sym (take-append-drop at text) ∙ ap (λ x. x ++ drop at text) r.front
 
-pub size_of : (text : List ℕ) (at : ℕ) (tokens : List Lexed) (r : Reads text at tokens) → length (bytes_of r.pieces) ≡ at
+pub size_of : (text : List ℕ) (at : ℕ) (tokens : List Lexed) (r : Reads text at tokens) →
+    length (bytes_of r.pieces) ≡ at
 size_of text at tokens r = ap length (sym r.front) ∙ length-take-le at text r.within
 
 -- where nothing stands no pieces do
-stuck_ends : (text : List ℕ) → IsStuck text → (ps : List Piece) (rest : List ℕ) → text ≡ bytes_of ps ++ rest → AllStand ps rest → ps ≡ []
+stuck_ends : (text : List ℕ) → IsStuck text → (ps : List Piece) (rest : List ℕ) → text ≡ bytes_of ps ++ rest →
+    AllStand ps rest → ps ≡ []
 stuck_ends text stuck [] rest e all = refl
 stuck_ends text stuck (p ∷ ps) rest e all =
     absurd (stuck p (bytes_of ps ++ rest) (e ∙ append_assoc (bytes_of_piece p) (bytes_of ps) rest) all.0)
 
 -- a reading that cannot go on is not the shorter one
-stuck_is_all : (text : List ℕ) (at bt : ℕ) (ts us : List Lexed) (r : Reads text at ts) (s : Reads text bt us) → IsStuck (drop bt text) → GoesOn s.pieces r.pieces (drop at text) → r.pieces ≡ s.pieces
+stuck_is_all : (text : List ℕ) (at bt : ℕ) (ts us : List Lexed) (r : Reads text at ts) (s : Reads text bt us) →
+    IsStuck (drop bt text) → GoesOn s.pieces r.pieces (drop at text) → r.pieces ≡ s.pieces
 stuck_is_all text at bt ts us r s stuck on =
     let whole : bytes_of s.pieces ++ (bytes_of on.others ++ drop at text) ≡ bytes_of s.pieces ++ drop bt text =
     sym (append_assoc (bytes_of s.pieces) (bytes_of on.others) (drop at text))
@@ -151,27 +172,44 @@ stuck_is_all text at bt ts us r s stuck on =
     ∙ ap (λ x. bytes_of x ++ drop at text) (sym on.whole)
     ∙ sym (whole_of text at ts r) ∙ whole_of text bt us s in
     let none : on.others ≡ [] =
-    stuck_ends (drop bt text) stuck on.others (drop at text) (sym (append_cancel_left (bytes_of s.pieces) (bytes_of on.others ++ drop at text) (drop bt text) whole)) on.stand in
+    stuck_ends (drop bt text) stuck on.others (drop at text)
+    (sym
+    (append_cancel_left (bytes_of s.pieces) (bytes_of on.others ++ drop at text) (drop bt text) whole)) on.stand in
     on.whole ∙ ap (λ x. s.pieces ++ x) none ∙ append-nil s.pieces
 
-same_text : (text : List ℕ) (at bt : ℕ) (ts us : List Lexed) (r : Reads text at ts) (s : Reads text bt us) → bytes_of r.pieces ++ drop at text ≡ bytes_of s.pieces ++ drop bt text
+same_text : (text : List ℕ) (at bt : ℕ) (ts us : List Lexed) (r : Reads text at ts) (s : Reads text bt us) →
+    bytes_of r.pieces ++ drop at text ≡ bytes_of s.pieces ++ drop bt text
 same_text text at bt ts us r s = sym (whole_of text at ts r) ∙ whole_of text bt us s
 
 more_tokens : (ps qs : List Piece) → length (tokens_from 0 ps) ≤ length (tokens_from 0 (ps ++ qs))
 more_tokens ps qs =
-    omega (arith, ap length (tokens_from-append 0 ps qs), length-append (tokens_from 0 ps) (tokens_from (0 + length (bytes_of ps)) qs))
+    omega (
+      arith,
+      ap length (tokens_from-append 0 ps qs),
+      length-append (tokens_from 0 ps) (tokens_from (0 + length (bytes_of ps)) qs),
+    )
 
 -- a reading that cannot go on has at least the tokens of each other
-pub stuck_has_most : (text : List ℕ) (at bt : ℕ) (ts us : List Lexed) → Reads text at ts → Reads text bt us → IsStuck (drop bt text) → length ts ≤ length us
+pub stuck_has_most : (text : List ℕ) (at bt : ℕ) (ts us : List Lexed) → Reads text at ts → Reads text bt us →
+    IsStuck (drop bt text) → length ts ≤ length us
 stuck_has_most text at bt ts us r s stuck =
     elim (comparable r.pieces s.pieces (drop at text) (drop bt text) r.stand s.stand (same_text text at bt ts us r s)) [
       | inl on ↦
-          omega (arith, more_tokens r.pieces on.others, ap length r.made, ap length (s.made ∙ ap (tokens_from 0) on.whole))
+          omega (
+            arith,
+            more_tokens r.pieces on.others,
+            ap length r.made,
+            ap length (s.made ∙ ap (tokens_from 0) on.whole),
+          )
       | inr on ↦
-          omega (arith, ap length (r.made ∙ ap (tokens_from 0) (stuck_is_all text at bt ts us r s stuck on) ∙ sym s.made))
+          omega (
+            arith,
+            ap length (r.made ∙ ap (tokens_from 0) (stuck_is_all text at bt ts us r s stuck on) ∙ sym s.made),
+          )
     ]
 
-same_pieces : (text : List ℕ) (at bt : ℕ) (ts us : List Lexed) (r : Reads text at ts) (s : Reads text bt us) → IsStuck (drop at text) → IsStuck (drop bt text) → r.pieces ≡ s.pieces
+same_pieces : (text : List ℕ) (at bt : ℕ) (ts us : List Lexed) (r : Reads text at ts) (s : Reads text bt us) →
+    IsStuck (drop at text) → IsStuck (drop bt text) → r.pieces ≡ s.pieces
 same_pieces text at bt ts us r s one other =
     elim (comparable r.pieces s.pieces (drop at text) (drop bt text) r.stand s.stand (same_text text at bt ts us r s)) [
       | inl on ↦ sym (stuck_is_all text bt at us ts s r one on)
@@ -179,7 +217,8 @@ same_pieces text at bt ts us r s one other =
     ]
 
 -- all readings that cannot go on are one
-pub stuck_alike : (text : List ℕ) (at bt : ℕ) (ts us : List Lexed) → Reads text at ts → Reads text bt us → IsStuck (drop at text) → IsStuck (drop bt text) → (at ≡ bt) × (ts ≡ us)
+pub stuck_alike : (text : List ℕ) (at bt : ℕ) (ts us : List Lexed) → Reads text at ts → Reads text bt us →
+    IsStuck (drop at text) → IsStuck (drop bt text) → (at ≡ bt) × (ts ≡ us)
 stuck_alike text at bt ts us r s one other =
     let same : r.pieces ≡ s.pieces = same_pieces text at bt ts us r s one other in (
       sym (size_of text at ts r) ∙ ap (λ ps. length (bytes_of ps)) same ∙ size_of text bt us s,
@@ -194,9 +233,12 @@ pub whole_stuck : (text : List ℕ) → IsStuck (drop (length text) text)
 whole_stuck text = subst IsStuck (sym (end_of text)) end_stuck
 
 -- a whole text is read in one way
-pub whole_alike : (text : List ℕ) (ts us : List Lexed) → Reads text (length text) ts → Reads text (length text) us → ts ≡ us
-whole_alike text ts us r s = (stuck_alike text (length text) (length text) ts us r s (whole_stuck text) (whole_stuck text)).1
+pub whole_alike : (text : List ℕ) (ts us : List Lexed) → Reads text (length text) ts → Reads text (length text) us →
+    ts ≡ us
+whole_alike text ts us r s =
+    (stuck_alike text (length text) (length text) ts us r s (whole_stuck text) (whole_stuck text)).1
 
 -- so it stands for one token list
-pub stands_once : (text : List ℕ) (tokens others : List Token) → StandsFor text tokens → StandsFor text others → tokens ≡ others
+pub stands_once : (text : List ℕ) (tokens others : List Token) → StandsFor text tokens → StandsFor text others →
+    tokens ≡ others
 stands_once text tokens others p q = sym p.2 ∙ ap (map token_of) (whole_alike text p.0 q.0 p.1 q.1) ∙ q.2

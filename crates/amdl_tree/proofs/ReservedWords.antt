@@ -1,14 +1,19 @@
 -- Reserved words by their length.
-use Rattle.std.proofs.Common.{◌≡◌, ◌≢◌, ℕ, List, [], ◌∷◌, length, refl, sym, ◌∙◌, lit<, ap, Option, Some, None, MatchOption, All, arith}
+use Rattle.std.proofs.Common.{◌≡◌, ◌≢◌, ℕ, List, [], ◌∷◌, length, refl, sym, ◌∙◌, lit<, ap, Option, Some, None}
+use Rattle.std.proofs.Common.{MatchOption, All, arith}
 use Rattle.std.specs.List.{Contains, find}
 use Rattle.std.specs.Str.{bytes_eq}
 use Rattle.std.proofs.lemmas.List.Elements.{All-contains}
 use Rattle.amdl_tree.specs.Word.{spelling_of_reserved}
 use Rattle.amdl_tree.specs.declared.reserved.Reserved.{Reserved}
-use Rattle.amdl_tree.specs.declared.reserved.Reserved.TheVariants.{Network, Kind, Field, Middlebox, Port, Relation, On, Host, Box, With, Link, Sends, Forbid, Insert, Remove, Output, Abort, If, Fi, Pick, In, Has, Not, And, Or, True, Add, Drop, Swap, Verdict, Invariant}
+use Rattle.amdl_tree.specs.declared.reserved.Reserved.TheVariants.{Network, Kind, Field, Middlebox, Port, Relation, On}
+use Rattle.amdl_tree.specs.declared.reserved.Reserved.TheVariants.{Host, Box, With, Link, Sends, Forbid, Insert, Remove}
+use Rattle.amdl_tree.specs.declared.reserved.Reserved.TheVariants.{Output, Abort, If, Fi, Pick, In, Has, Not, And, Or}
+use Rattle.amdl_tree.specs.declared.reserved.Reserved.TheVariants.{True, Add, Drop, Swap, Verdict, Invariant}
 
 -- a word of four bytes is one of these nine
-pub of_four : (word : Reserved) → length (spelling_of_reserved word) ≡ 4 → Contains (Kind ∷ Port ∷ Host ∷ With ∷ Link ∷ Pick ∷ True ∷ Drop ∷ Swap ∷ []) word
+pub of_four : (word : Reserved) → length (spelling_of_reserved word) ≡ 4 →
+    Contains (Kind ∷ Port ∷ Host ∷ With ∷ Link ∷ Pick ∷ True ∷ Drop ∷ Swap ∷ []) word
 of_four Kind e = (0, lit< tt, refl)
 of_four Port e = (1, lit< tt, refl)
 of_four Host e = (2, lit< tt, refl)
@@ -21,15 +26,20 @@ of_four Swap e = (8, lit< tt, refl)
 of_four word e = absurd (omega (arith, e))
 
 -- where no word of the length of these bytes is spelled so, none is
-pub none_of_them : (r : Option Reserved) (bytes : List ℕ) (words : List Reserved) (Q : Reserved → Type 0) → ((word : Reserved) → length (spelling_of_reserved word) ≡ length bytes → Contains words word) →
-    MatchOption r (All (λ word. bytes ≢ spelling_of_reserved word) words) Q → MatchOption r ((word : Reserved) → bytes ≢ spelling_of_reserved word) Q
+pub none_of_them : (r : Option Reserved) (bytes : List ℕ) (words : List Reserved) (Q : Reserved → Type 0) →
+    ((word : Reserved) → length (spelling_of_reserved word) ≡ length bytes → Contains words word) →
+    MatchOption r (All (λ word. bytes ≢ spelling_of_reserved word) words) Q →
+    MatchOption r ((word : Reserved) → bytes ≢ spelling_of_reserved word) Q
 none_of_them None bytes words Q listed all =
-    λ word e. All-contains (λ other. bytes ≢ spelling_of_reserved other) words word all (listed word (ap length (sym e))) e
+    λ word e. All-contains (λ other. bytes ≢ spelling_of_reserved other) words word all
+    (listed word (ap length (sym e))) e
 none_of_them (Some word) bytes words Q listed found = found
 
 -- all of them
 abbrev pub table : List Reserved
-table = Network ∷ Kind ∷ Field ∷ Middlebox ∷ Port ∷ Relation ∷ On ∷ Host ∷ Box ∷ With ∷ Link ∷ Sends ∷ Forbid ∷ Insert ∷ Remove ∷ Output ∷ Abort ∷ If ∷ Fi ∷ Pick ∷ In ∷ Has ∷ Not ∷ And ∷ Or ∷ True ∷ Add ∷ Drop ∷ Swap ∷ Verdict ∷ Invariant ∷ []
+table = Network ∷ Kind ∷ Field ∷ Middlebox ∷ Port ∷ Relation ∷ On ∷ Host ∷ Box ∷ With ∷ Link ∷ Sends ∷ Forbid ∷ Insert
+    ∷ Remove ∷ Output ∷ Abort ∷ If ∷ Fi ∷ Pick ∷ In ∷ Has ∷ Not ∷ And ∷ Or ∷ True ∷ Add ∷ Drop ∷ Swap ∷ Verdict
+    ∷ Invariant ∷ []
 
 abbrev pub word_of : List ℕ → Option Reserved
 word_of bytes = find (λ word. bytes_eq bytes (spelling_of_reserved word)) table

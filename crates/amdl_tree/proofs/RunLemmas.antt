@@ -1,5 +1,6 @@
 -- The bytes at the front of a text that pass a test.
-use Rattle.std.proofs.Common.{◌≡◌, ◌≤◌, ◌<◌, ℕ, Bool, true, false, List, [], ◌∷◌, ◌++◌, length, take, drop, refl, arith, one-add, inl, inr}
+use Rattle.std.proofs.Common.{◌≡◌, ◌≤◌, ◌<◌, ℕ, Bool, true, false, List, [], ◌∷◌, ◌++◌, length, take, drop, refl, arith}
+use Rattle.std.proofs.Common.{one-add, inl, inr}
 use Rattle.std.specs.List.{list_all, prefix_len}
 use Rattle.std.proofs.lemmas.Bool.{and_parts, cases_Bool}
 
@@ -25,7 +26,8 @@ run_stops p (x ∷ xs) =
     ]
 
 -- a run that stops is as long as each front that passes
-pub front_le : (p : ℕ → Bool) (bytes after other behind : List ℕ) → StopsRun p after → list_all p other ≡ true → bytes ++ after ≡ other ++ behind → length other ≤ length bytes
+pub front_le : (p : ℕ → Bool) (bytes after other behind : List ℕ) → StopsRun p after → list_all p other ≡ true →
+    bytes ++ after ≡ other ++ behind → length other ≤ length bytes
 front_le p bytes after [] behind stops all e = omega arith
 front_le p [] [] (o ∷ other) behind stops all e = absurd (cc)
 front_le p [] (a ∷ after) (o ∷ other) behind stops all e =

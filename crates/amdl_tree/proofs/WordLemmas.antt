@@ -21,14 +21,17 @@ word-not_empty (byte ∷ bytes) is = λ e. cc
 -- a byte that does not go on with a word stands in none
 pub word-no_byte : (word : List ℕ) (byte : ℕ) → IsWord word → goes_on_with_word byte ≡ false → ¬ Contains word byte
 word-no_byte word byte is stops stands =
-    let goes : goes_on_with_word byte ≡ true = All-contains (λ b. goes_on_with_word b ≡ true) word byte (AllPass-from_list_all goes_on_with_word word (word-goes_on word is)) stands in
+    let goes : goes_on_with_word byte ≡ true =
+    All-contains (λ b. goes_on_with_word b ≡ true) word byte
+    (AllPass-from_list_all goes_on_with_word word (word-goes_on word is)) stands in
     cc
 
 pub name-no_byte : (name : List ℕ) (byte : ℕ) → IsName name → goes_on_with_word byte ≡ false → ¬ Contains name byte
 name-no_byte name byte is = word-no_byte name byte is.word
 
 -- the text behind a word does not begin within it
-goes_on_split : (n m a b : List ℕ) → list_all goes_on_with_word n ≡ true → list_all goes_on_with_word m ≡ true → EndsWord a → EndsWord b → n ++ a ≡ m ++ b → (n ≡ m) × (a ≡ b)
+goes_on_split : (n m a b : List ℕ) → list_all goes_on_with_word n ≡ true → list_all goes_on_with_word m ≡ true →
+    EndsWord a → EndsWord b → n ++ a ≡ m ++ b → (n ≡ m) × (a ≡ b)
 goes_on_split [] [] a b p q s t e = (refl, e)
 goes_on_split [] (y ∷ m) [] b p q s t e = absurd (cc)
 goes_on_split [] (y ∷ m) (x ∷ a) b p q s t e =
@@ -45,5 +48,6 @@ goes_on_split (x ∷ n) (y ∷ m) a b p q s t e =
     let rest = goes_on_split n m a b here.1 there.1 s t tail in
     (cc, rest.1)
 
-pub words_split : (n m a b : List ℕ) → IsWord n → IsWord m → EndsWord a → EndsWord b → n ++ a ≡ m ++ b → (n ≡ m) × (a ≡ b)
+pub words_split : (n m a b : List ℕ) → IsWord n → IsWord m → EndsWord a → EndsWord b → n ++ a ≡ m ++ b →
+    (n ≡ m) × (a ≡ b)
 words_split n m a b p q = goes_on_split n m a b (word-goes_on n p) (word-goes_on m q)

@@ -1,4 +1,5 @@
--- The depth of a tree: the length of the longest chain of `if`, `pick`, `not` and groups in which each one stands within
+-- The depth of a tree: the length of the longest chain of `if`, `pick`, `not` and groups in which each one stands
+-- within
 -- the one before it. The guard and the blocks of an `if` both stand within it.
 use Rattle.std.specs.Prelude.{ℕ, suc, List, [], ◌∷◌, map, max}
 use Rattle.amdl_tree.specs.declared.guard.Guard.{Guard}

@@ -45,14 +45,17 @@ text_of_wire =
 abbrev pub tokens_of_wire : List Token
 tokens_of_wire =
     key words.Network ++ word (codes "wire") ++ mark signs.Semicolon
-    ++ key words.Kind ++ word (codes "Addr") ++ mark signs.Equals ++ mark signs.OpenBrace ++ word (codes "a") ++ mark signs.Comma ++ word (codes "b") ++ mark signs.CloseBrace ++ mark signs.Semicolon
+    ++ key words.Kind ++ word (codes "Addr") ++ mark signs.Equals ++ mark signs.OpenBrace ++ word (codes "a")
+    ++ mark signs.Comma ++ word (codes "b") ++ mark signs.CloseBrace ++ mark signs.Semicolon
     ++ key words.Field ++ word (codes "src") ++ mark signs.Colon ++ word (codes "Addr") ++ mark signs.Semicolon
     ++ key words.Field ++ word (codes "dst") ++ mark signs.Colon ++ word (codes "Addr") ++ mark signs.Semicolon
     ++ key words.Host ++ word (codes "p") ++ mark signs.Semicolon
     ++ key words.Host ++ word (codes "q") ++ mark signs.Semicolon
     ++ key words.Link ++ word (codes "p") ++ mark signs.Dashes ++ word (codes "q") ++ mark signs.Semicolon
-    ++ key words.Sends ++ word (codes "p") ++ mark signs.Colon ++ word (codes "src") ++ mark signs.Equals ++ word (codes "a") ++ mark signs.Semicolon
-    ++ key words.Forbid ++ word (codes "q") ++ mark signs.Colon ++ word (codes "src") ++ mark signs.Equals ++ word (codes "a")
+    ++ key words.Sends ++ word (codes "p") ++ mark signs.Colon ++ word (codes "src") ++ mark signs.Equals
+    ++ word (codes "a") ++ mark signs.Semicolon
+    ++ key words.Forbid ++ word (codes "q") ++ mark signs.Colon ++ word (codes "src") ++ mark signs.Equals
+    ++ word (codes "a")
     ++ mark signs.Comma ++ word (codes "dst") ++ mark signs.Equals ++ word (codes "b") ++ mark signs.Semicolon
 
 -- a tree that no text spells: a type without values

@@ -29,7 +29,13 @@ branch guard body = record { guard = guard; body = body }
 
 -- not (has seen(src, dst) or src != dst) and true
 abbrev pub not_seen : Guard
-not_seen = any_of ((Not (Group (any_of ((Has (atom (codes "seen") (codes "src") (codes "dst")) ∷ []) ∷ (Differ (codes "src") (codes "dst") ∷ []) ∷ []))) ∷ True ∷ []) ∷ [])
+not_seen =
+    any_of
+    ((Not
+    (Group
+    (any_of
+    ((Has (atom (codes "seen") (codes "src") (codes "dst")) ∷ []) ∷ (Differ (codes "src") (codes "dst") ∷ []) ∷ [])))
+    ∷ True ∷ []) ∷ [])
 
 -- a class whose deepest place stands within an `if`, a `not` and a group
 abbrev pub gate : Class
@@ -61,14 +67,16 @@ gated = record {
   name = codes "gated";
   items =
       OfClass gate
-      ∷ Instance (codes "g") (codes "gate") (atom (codes "seen") (codes "a") (codes "b") ∷ atom (codes "seen") (codes "b") (codes "a") ∷ [])
+      ∷ Instance (codes "g") (codes "gate")
+      (atom (codes "seen") (codes "a") (codes "b") ∷ atom (codes "seen") (codes "b") (codes "a") ∷ [])
       ∷ Instance (codes "h") (codes "gate") []
       ∷ [];
 }
 
 -- the spelling of an atom with two arguments
 abbrev pub tokens_of_atom : List ℕ → List ℕ → List ℕ → List Token
-tokens_of_atom relation one two = word relation ++ mark signs.OpenParen ++ word one ++ mark signs.Comma ++ word two ++ mark signs.CloseParen
+tokens_of_atom relation one two =
+    word relation ++ mark signs.OpenParen ++ word one ++ mark signs.Comma ++ word two ++ mark signs.CloseParen
 
 abbrev pub tokens_of_gated : List Token
 tokens_of_gated =
@@ -77,23 +85,32 @@ tokens_of_gated =
     ++ key words.Port ++ word (codes "i") ++ mark signs.Comma ++ word (codes "o") ++ mark signs.Semicolon
     ++ key words.Relation ++ tokens_of_atom (codes "seen") (codes "Addr") (codes "Addr") ++ mark signs.Semicolon
     ++ key words.On ++ word (codes "i") ++ mark signs.Colon ++ mark signs.OpenBrace
-    ++ key words.If ++ key words.Not ++ mark signs.OpenParen ++ key words.Has ++ tokens_of_atom (codes "seen") (codes "src") (codes "dst")
-    ++ key words.Or ++ word (codes "src") ++ mark signs.Differs ++ word (codes "dst") ++ mark signs.CloseParen ++ key words.And ++ key words.True
+    ++ key words.If ++ key words.Not ++ mark signs.OpenParen ++ key words.Has
+    ++ tokens_of_atom (codes "seen") (codes "src") (codes "dst")
+    ++ key words.Or ++ word (codes "src") ++ mark signs.Differs ++ word (codes "dst") ++ mark signs.CloseParen
+    ++ key words.And ++ key words.True
     ++ mark signs.Arrow ++ mark signs.OpenBrace ++ mark signs.CloseBrace
-    ++ mark signs.Bar ++ word (codes "src") ++ mark signs.Equals ++ word (codes "a") ++ mark signs.Arrow ++ mark signs.OpenBrace
-    ++ key words.Pick ++ word (codes "x") ++ mark signs.Colon ++ word (codes "Addr") ++ key words.In ++ mark signs.OpenBrace
-    ++ key words.Insert ++ tokens_of_atom (codes "seen") (codes "x") (codes "dst") ++ mark signs.Semicolon ++ mark signs.CloseBrace
-    ++ key words.Output ++ word (codes "o") ++ mark signs.OpenBracket ++ word (codes "src") ++ mark signs.Becomes ++ word (codes "dst")
-    ++ mark signs.Comma ++ word (codes "dst") ++ mark signs.Becomes ++ word (codes "a") ++ mark signs.CloseBracket ++ mark signs.Semicolon
+    ++ mark signs.Bar ++ word (codes "src") ++ mark signs.Equals ++ word (codes "a") ++ mark signs.Arrow
+    ++ mark signs.OpenBrace
+    ++ key words.Pick ++ word (codes "x") ++ mark signs.Colon ++ word (codes "Addr") ++ key words.In
+    ++ mark signs.OpenBrace
+    ++ key words.Insert ++ tokens_of_atom (codes "seen") (codes "x") (codes "dst") ++ mark signs.Semicolon
+    ++ mark signs.CloseBrace
+    ++ key words.Output ++ word (codes "o") ++ mark signs.OpenBracket ++ word (codes "src") ++ mark signs.Becomes
+    ++ word (codes "dst")
+    ++ mark signs.Comma ++ word (codes "dst") ++ mark signs.Becomes ++ word (codes "a") ++ mark signs.CloseBracket
+    ++ mark signs.Semicolon
     ++ mark signs.CloseBrace ++ key words.Fi
     ++ key words.Remove ++ tokens_of_atom (codes "seen") (codes "a") (codes "b") ++ mark signs.Semicolon
     ++ key words.Output ++ word (codes "o") ++ mark signs.Semicolon ++ mark signs.CloseBrace
     ++ key words.On ++ word (codes "o") ++ mark signs.Colon ++ mark signs.OpenBrace
-    ++ key words.Pick ++ word (codes "y") ++ mark signs.Colon ++ word (codes "Addr") ++ key words.In ++ mark signs.OpenBrace ++ mark signs.CloseBrace
+    ++ key words.Pick ++ word (codes "y") ++ mark signs.Colon ++ word (codes "Addr") ++ key words.In
+    ++ mark signs.OpenBrace ++ mark signs.CloseBrace
     ++ key words.Abort ++ mark signs.Semicolon ++ mark signs.CloseBrace
     ++ mark signs.CloseBrace
     ++ key words.Box ++ word (codes "g") ++ mark signs.Colon ++ word (codes "gate") ++ key words.With
-    ++ tokens_of_atom (codes "seen") (codes "a") (codes "b") ++ mark signs.Comma ++ tokens_of_atom (codes "seen") (codes "b") (codes "a") ++ mark signs.Semicolon
+    ++ tokens_of_atom (codes "seen") (codes "a") (codes "b") ++ mark signs.Comma
+    ++ tokens_of_atom (codes "seen") (codes "b") (codes "a") ++ mark signs.Semicolon
     ++ key words.Box ++ word (codes "h") ++ mark signs.Colon ++ word (codes "gate") ++ mark signs.Semicolon
 
 abbrev pub text_of_gated : List ℕ

@@ -14,14 +14,17 @@ abbrev pub Past : (Token → Bool) → List Token → Type 0
 Past goes [] = ⊤
 Past goes (token ∷ tokens) = goes token ≡ false
 
--- Of the values that W asks for: a token list begins with the spelling of at most one of them, where what follows does not
+-- Of the values that W asks for: a token list begins with the spelling of at most one of them, where what follows does
+-- not
 -- go on with it. So what follows is settled too.
 pub record Once {X : Type 0} (spelled : X → List Token) (W : X → Type 0) (goes : X → Token → Bool) : Type 0 where
-  pub once : (x y : X) (a b : List Token) → W x → W y → Past (goes x) a → Past (goes y) b → spelled x ++ a ≡ spelled y ++ b → (x ≡ y) × (a ≡ b)
+  pub once : (x y : X) (a b : List Token) → W x → W y → Past (goes x) a → Past (goes y) b →
+      spelled x ++ a ≡ spelled y ++ b → (x ≡ y) × (a ≡ b)
 
 -- each spelling has a first token, of this kind
 pub record Begins {X : Type 0} (spelled : X → List Token) (W : X → Type 0) (starts : Token → Bool) : Type 0 where
-  pub begins : (x : X) → W x → (token : Token) × (tokens : List Token) × (spelled x ≡ token ∷ tokens) × (starts token ≡ true)
+  pub begins : (x : X) → W x →
+      (token : Token) × (tokens : List Token) × (spelled x ≡ token ∷ tokens) × (starts token ≡ true)
 
 -- no token
 abbrev pub never : Token → Bool

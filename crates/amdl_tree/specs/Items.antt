@@ -6,7 +6,8 @@ use Rattle.amdl_tree.specs.declared.class.Class.{Class}
 use Rattle.amdl_tree.specs.declared.tree.End.{End}
 use Rattle.amdl_tree.specs.declared.tree.Equal.{Equal}
 use Rattle.amdl_tree.specs.declared.tree.Item.{Item}
-use Rattle.amdl_tree.specs.declared.tree.Item.TheVariants.{Kind, Field, Class as OfClass, Host, Instance, Link, Sends, Forbid}
+use Rattle.amdl_tree.specs.declared.tree.Item.TheVariants.{Kind, Field, Class as OfClass, Host, Instance, Link, Sends}
+use Rattle.amdl_tree.specs.declared.tree.Item.TheVariants.{Forbid}
 
 -- a type with its values
 pub record KindItem : Type 0 where

@@ -3,8 +3,11 @@ use Rattle.std.specs.Prelude.{◌≡◌, ◌↔◌, ◌≤◌, Bool, true, ℕ, 
 use Rattle.std.specs.List.{All}
 use Rattle.amdl_tree.specs.Word.{IsWord, EndsWord, spelling_of_reserved}
 use Rattle.amdl_tree.specs.Layout.{layout_of_tree}
-use Rattle.amdl_tree.specs.WellBuilt.{OneOrMore, IsBuiltEqual, IsBuiltEnd, LitLayer, GuardLayer, StmtLayer, AlternativeLayer, IsBuiltLit, IsBuiltGuard, IsBuiltStmt, IsBuiltAlternative, IsBuiltClass, IsBuiltItem, ItemFits, IsWellBuilt, IsShaped}
-use Rattle.amdl_tree.specs.Spelling.{spell_of_lit, spell_of_guard, spell_of_statement, spell_of_statements, spell_of_class, spell_of_pattern, spell_of_end, spell_of_item, spell}
+use Rattle.amdl_tree.specs.WellBuilt.{OneOrMore, IsBuiltEqual, IsBuiltEnd, LitLayer, GuardLayer, StmtLayer}
+use Rattle.amdl_tree.specs.WellBuilt.{AlternativeLayer, IsBuiltLit, IsBuiltGuard, IsBuiltStmt, IsBuiltAlternative}
+use Rattle.amdl_tree.specs.WellBuilt.{IsBuiltClass, IsBuiltItem, ItemFits, IsWellBuilt, IsShaped}
+use Rattle.amdl_tree.specs.Spelling.{spell_of_lit, spell_of_guard, spell_of_statement, spell_of_statements}
+use Rattle.amdl_tree.specs.Spelling.{spell_of_class, spell_of_pattern, spell_of_end, spell_of_item, spell}
 use Rattle.amdl_tree.specs.Lexical.{StandsFor}
 use Rattle.amdl_tree.specs.NetworkFile.{IsFileOf}
 use Rattle.amdl_tree.specs.GoesOn.{Once, never, goes_guard, goes_pattern, goes_end, starts_statement, starts_item}
@@ -23,7 +26,8 @@ use Rattle.amdl_tree.specs.declared.tree.Tree.{Tree}
 
 -- a text stands for at most one token list
 abbrev pub StandsOnce : Type 0
-StandsOnce = (text : List ℕ) (tokens others : List Token) → StandsFor text tokens → StandsFor text others → tokens ≡ others
+StandsOnce =
+    (text : List ℕ) (tokens others : List Token) → StandsFor text tokens → StandsFor text others → tokens ≡ others
 
 -- no two trees that texts can spell have one layout
 abbrev pub LayoutIsOneToOne : Type 0
@@ -50,8 +54,10 @@ LayoutIsFile = (tree : Tree) → IsShaped tree → IsFileOf (layout_of_tree tree
 pub record BuiltByParts : Type 0 where
   pub guard : (guard : Guard) → IsBuiltGuard guard ↔ GuardLayer IsBuiltLit guard
   pub lit : (lit : Lit) → IsBuiltLit lit ↔ LitLayer IsBuiltLit IsBuiltGuard (out-Lit lit)
-  pub alternative : (alternative : Alternative) → IsBuiltAlternative alternative ↔ AlternativeLayer IsBuiltGuard IsBuiltStmt alternative
-  pub stmt : (stmt : Stmt) → IsBuiltStmt stmt ↔ StmtLayer (OneOrMore IsBuiltAlternative) (All IsBuiltStmt) (out-Stmt stmt)
+  pub alternative : (alternative : Alternative) →
+      IsBuiltAlternative alternative ↔ AlternativeLayer IsBuiltGuard IsBuiltStmt alternative
+  pub stmt : (stmt : Stmt) →
+      IsBuiltStmt stmt ↔ StmtLayer (OneOrMore IsBuiltAlternative) (All IsBuiltStmt) (out-Stmt stmt)
 
 -- a token list begins with at most one well-built part of each kind, where what follows does not go on with the part
 pub record PartsAreSpelledOnce : Type 0 where
@@ -89,9 +95,13 @@ Follows test premises conclusion = test premises conclusion ≡ true
 -- what is derivable is the least set that the rules keep
 pub record IsLeastKept {A : Type 0} (test : List A → A → Bool) : Type 0 where
   pub start : (c : A) → Follows test [] c → IsDerivable (Follows test) c
-  pub step : (premises : List A) (c : A) → All (IsDerivable (Follows test)) premises → Follows test premises c → IsDerivable (Follows test) c
-  pub from : (c : A) → IsDerivable (Follows test) c → (premises : List A) × All (IsDerivable (Follows test)) premises × Follows test premises c
-  pub least : (p : A → Bool) → ((premises : List A) (c : A) → All (λ x. p x ≡ true) premises → Follows test premises c → p c ≡ true) → (c : A) → IsDerivable (Follows test) c → p c ≡ true
+  pub step : (premises : List A) (c : A) → All (IsDerivable (Follows test)) premises → Follows test premises c →
+      IsDerivable (Follows test) c
+  pub from : (c : A) → IsDerivable (Follows test) c →
+      (premises : List A) × All (IsDerivable (Follows test)) premises × Follows test premises c
+  pub least : (p : A → Bool) →
+      ((premises : List A) (c : A) → All (λ x. p x ≡ true) premises → Follows test premises c → p c ≡ true) → (c : A) →
+      IsDerivable (Follows test) c → p c ≡ true
 
 abbrev pub DerivableIsLeast : Type 0 → Type 0
 DerivableIsLeast A = (test : List A → A → Bool) → IsLeastKept test

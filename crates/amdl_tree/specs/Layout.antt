@@ -17,7 +17,8 @@ use Rattle.amdl_tree.specs.declared.tree.Equal.{Equal}
 use Rattle.amdl_tree.specs.declared.tree.End.{End}
 use Rattle.amdl_tree.specs.declared.tree.End.TheVariants.{Host as AtHost, Port as AtPort}
 use Rattle.amdl_tree.specs.declared.tree.Item.{Item}
-use Rattle.amdl_tree.specs.declared.tree.Item.TheVariants.{Kind, Field, Class as OfClass, Host, Instance, Link, Sends, Forbid}
+use Rattle.amdl_tree.specs.declared.tree.Item.TheVariants.{Kind, Field, Class as OfClass, Host, Instance, Link, Sends}
+use Rattle.amdl_tree.specs.declared.tree.Item.TheVariants.{Forbid}
 use Rattle.amdl_tree.specs.declared.tree.Tree.{Tree}
 
 -- a line of text: each ends with a line feed
@@ -110,16 +111,20 @@ lines_of_branch branch = (codes "} | " ++ branch.guard ++ codes " -> {") ∷ ind
 -- an `if`, which begins with its first alternative; one without alternatives stands in no text
 abbrev pub lines_of_choice : List Branch → List (List ℕ)
 lines_of_choice [] = codes "if fi" ∷ []
-lines_of_choice (branch ∷ branches) = (codes "if " ++ branch.guard ++ codes " -> {") ∷ indented branch.block ++ flat_map lines_of_branch branches ++ codes "} fi" ∷ []
+lines_of_choice (branch ∷ branches) =
+    (codes "if " ++ branch.guard ++ codes " -> {") ∷ indented branch.block ++ flat_map lines_of_branch branches
+    ++ codes "} fi" ∷ []
 
 -- the lines of a statement, given those of the statements of a block and of the alternatives of an `if`
 abbrev pub stmt_lines : {S A : Type 0} → (S → List (List ℕ)) → (A → Branch) → Stmt-F S A → List (List ℕ)
 stmt_lines stated branched (Stmt-F.Insert atom) = (codes "insert " ++ layout_of_atom atom ++ codes ";") ∷ []
 stmt_lines stated branched (Stmt-F.Remove atom) = (codes "remove " ++ layout_of_atom atom ++ codes ";") ∷ []
 stmt_lines stated branched Stmt-F.Abort = codes "abort;" ∷ []
-stmt_lines stated branched (Stmt-F.Output port changes) = (codes "output " ++ port ++ layout_of_changes changes ++ codes ";") ∷ []
+stmt_lines stated branched (Stmt-F.Output port changes) =
+    (codes "output " ++ port ++ layout_of_changes changes ++ codes ";") ∷ []
 stmt_lines stated branched (Stmt-F.Choose alternatives) = lines_of_choice (map branched alternatives)
-stmt_lines stated branched (Stmt-F.Pick name kind body) = (codes "pick " ++ name ++ codes " : " ++ kind ++ codes " in {") ∷ indented (flat_map stated body) ++ codes "}" ∷ []
+stmt_lines stated branched (Stmt-F.Pick name kind body) =
+    (codes "pick " ++ name ++ codes " : " ++ kind ++ codes " in {") ∷ indented (flat_map stated body) ++ codes "}" ∷ []
 
 abbrev pub branch_lines : {S : Type 0} → (S → List (List ℕ)) → Guard → List S → Branch
 branch_lines stated guard body = record { guard = layout_of_guard guard; block = flat_map stated body }
@@ -141,15 +146,21 @@ abbrev pub layout_of_relation : Relation → List ℕ
 layout_of_relation relation = codes "relation " ++ relation.name ++ codes "(" ++ listed relation.kinds ++ codes ");"
 
 abbrev pub lines_of_handler : Handler → List (List ℕ)
-lines_of_handler handler = (codes "on " ++ handler.port ++ codes " : {") ∷ indented (flat_map lines_of_statement handler.body) ++ codes "}" ∷ []
+lines_of_handler handler =
+    (codes "on " ++ handler.port ++ codes " : {") ∷ indented (flat_map lines_of_statement handler.body) ++ codes "}"
+    ∷ []
 
 -- the lines between the head of a class and its last brace
 abbrev pub lines_within_class : Class → List (List ℕ)
-lines_within_class class = (codes "port " ++ listed class.ports ++ codes ";") ∷ map layout_of_relation class.relations ++ flat_map lines_of_handler class.handlers
+lines_within_class class =
+    (codes "port " ++ listed class.ports ++ codes ";") ∷ map layout_of_relation class.relations
+    ++ flat_map lines_of_handler class.handlers
 
 -- the last line of a class, as of each item, is without its line feed here
 abbrev pub layout_of_class : Class → List ℕ
-layout_of_class class = line (codes "middlebox " ++ class.name ++ codes " {") ++ flat_map line (indented (lines_within_class class)) ++ codes "}"
+layout_of_class class =
+    line
+    (codes "middlebox " ++ class.name ++ codes " {") ++ flat_map line (indented (lines_within_class class)) ++ codes "}"
 
 -- the tuples that a box starts with; without any, `with` is left out
 abbrev pub layout_of_first : List Atom → List ℕ
@@ -161,11 +172,13 @@ layout_of_item (Kind name values) = codes "type " ++ name ++ codes " = {" ++ lis
 layout_of_item (Field name kind) = codes "field " ++ name ++ codes " : " ++ kind ++ codes ";"
 layout_of_item (OfClass class) = layout_of_class class
 layout_of_item (Host name) = codes "host " ++ name ++ codes ";"
-layout_of_item (Instance name class first) = codes "box " ++ name ++ codes " : " ++ class ++ layout_of_first first ++ codes ";"
+layout_of_item (Instance name class first) =
+    codes "box " ++ name ++ codes " : " ++ class ++ layout_of_first first ++ codes ";"
 layout_of_item (Link one two) = codes "link " ++ layout_of_end one ++ codes " -- " ++ layout_of_end two ++ codes ";"
 layout_of_item (Sends host pattern) = codes "sends " ++ host ++ codes " : " ++ layout_of_pattern pattern ++ codes ";"
 layout_of_item (Forbid host pattern) = codes "forbid " ++ host ++ codes " : " ++ layout_of_pattern pattern ++ codes ";"
 
 -- the head line, then each item in order, of which all but a class are one line
 abbrev pub layout_of_tree : Tree → List ℕ
-layout_of_tree tree = line (codes "network " ++ tree.name ++ codes ";") ++ flat_map (λ item. line (layout_of_item item)) tree.items
+layout_of_tree tree =
+    line (codes "network " ++ tree.name ++ codes ";") ++ flat_map (λ item. line (layout_of_item item)) tree.items

@@ -1,5 +1,6 @@
 -- How a text is read: blanks, comments and tokens in turn, each token the longest that starts at its place.
-use Rattle.std.specs.Prelude.{◌≡◌, ◌≤◌, ◌+◌, ℕ, Bool, true, ◌||◌, ◌==◌, not, List, [], ◌∷◌, ◌++◌, ◌⊎◌, length, take, drop, map}
+use Rattle.std.specs.Prelude.{◌≡◌, ◌≤◌, ◌+◌, ℕ, Bool, true, ◌||◌, ◌==◌, not, List, [], ◌∷◌, ◌++◌, ◌⊎◌, length, take}
+use Rattle.std.specs.Prelude.{drop, map}
 use Rattle.std.specs.List.{list_all, flat_map}
 use Rattle.amdl_tree.specs.Word.{IsWord}
 use Rattle.amdl_tree.specs.Token.{spelling_of_sign, IsNumber, SpellsToken}
@@ -33,7 +34,8 @@ pub data IsLexeme (bytes : List ℕ) : Type 0 where
 
 -- no front of the text is a longer word, number or sign
 abbrev pub IsLongest : List ℕ → List ℕ → Type 0
-IsLongest bytes after = (other behind : List ℕ) → bytes ++ after ≡ other ++ behind → IsLexeme other → length other ≤ length bytes
+IsLongest bytes after =
+    (other behind : List ℕ) → bytes ++ after ≡ other ++ behind → IsLexeme other → length other ≤ length bytes
 
 -- a piece of a text: a blank or a comment, or a token as it is spelled there
 pub data Piece : Type 0 where
@@ -65,7 +67,8 @@ lexed token start end = record { token = token; start = start; end = end }
 abbrev pub tokens_from : ℕ → List Piece → List Lexed
 tokens_from at [] = []
 tokens_from at (a_gap bytes ∷ pieces) = tokens_from (at + length bytes) pieces
-tokens_from at (a_token token bytes ∷ pieces) = lexed token at (at + length bytes) ∷ tokens_from (at + length bytes) pieces
+tokens_from at (a_token token bytes ∷ pieces) =
+    lexed token at (at + length bytes) ∷ tokens_from (at + length bytes) pieces
 
 -- the first bytes of the text, as many as are told, are read as these tokens
 pub record Reads (text : List ℕ) (at : ℕ) (tokens : List Lexed) : Type 0 where

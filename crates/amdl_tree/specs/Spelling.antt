@@ -23,7 +23,8 @@ use Rattle.amdl_tree.specs.declared.tree.Equal.{Equal}
 use Rattle.amdl_tree.specs.declared.tree.End.{End}
 use Rattle.amdl_tree.specs.declared.tree.End.TheVariants.{Host as AtHost, Port as AtPort}
 use Rattle.amdl_tree.specs.declared.tree.Item.{Item}
-use Rattle.amdl_tree.specs.declared.tree.Item.TheVariants.{Kind, Field, Class as OfClass, Host, Instance, Link, Sends, Forbid}
+use Rattle.amdl_tree.specs.declared.tree.Item.TheVariants.{Kind, Field, Class as OfClass, Host, Instance, Link, Sends}
+use Rattle.amdl_tree.specs.declared.tree.Item.TheVariants.{Forbid}
 use Rattle.amdl_tree.specs.declared.tree.Tree.{Tree}
 
 -- a name, a reserved word and a sign, each a list of one token
@@ -55,7 +56,8 @@ as_it_is tokens = tokens
 
 -- R(E, E)
 abbrev pub spell_of_atom : Atom → List Token
-spell_of_atom atom = Word atom.relation ∷ Signed signs.OpenParen ∷ with_commas word atom.args ++ Signed signs.CloseParen ∷ []
+spell_of_atom atom =
+    Word atom.relation ∷ Signed signs.OpenParen ∷ with_commas word atom.args ++ Signed signs.CloseParen ∷ []
 
 -- F = V
 abbrev pub spell_of_equal : Equal → List Token
@@ -107,16 +109,20 @@ block_spelled stated body = Signed signs.OpenBrace ∷ flat_map stated body ++ S
 -- without changes the brackets are left out
 abbrev pub spell_of_changes : List Equal → List Token
 spell_of_changes [] = []
-spell_of_changes (change ∷ changes) = Signed signs.OpenBracket ∷ with_commas spell_of_change (change ∷ changes) ++ Signed signs.CloseBracket ∷ []
+spell_of_changes (change ∷ changes) =
+    Signed signs.OpenBracket ∷ with_commas spell_of_change (change ∷ changes) ++ Signed signs.CloseBracket ∷ []
 
 -- a statement, given how the statements of a block and the alternatives of an `if` are spelled
 abbrev pub stmt_spelled : {S A : Type 0} → (S → List Token) → (A → List Token) → Stmt-F S A → List Token
 stmt_spelled stated branched (Stmt-F.Insert atom) = Key words.Insert ∷ spell_of_atom atom ++ Signed signs.Semicolon ∷ []
 stmt_spelled stated branched (Stmt-F.Remove atom) = Key words.Remove ∷ spell_of_atom atom ++ Signed signs.Semicolon ∷ []
 stmt_spelled stated branched Stmt-F.Abort = Key words.Abort ∷ Signed signs.Semicolon ∷ []
-stmt_spelled stated branched (Stmt-F.Output port changes) = Key words.Output ∷ Word port ∷ spell_of_changes changes ++ Signed signs.Semicolon ∷ []
-stmt_spelled stated branched (Stmt-F.Choose alternatives) = Key words.If ∷ listed (Signed signs.Bar) branched alternatives ++ Key words.Fi ∷ []
-stmt_spelled stated branched (Stmt-F.Pick name kind body) = Key words.Pick ∷ Word name ∷ Signed signs.Colon ∷ Word kind ∷ Key words.In ∷ block_spelled stated body
+stmt_spelled stated branched (Stmt-F.Output port changes) =
+    Key words.Output ∷ Word port ∷ spell_of_changes changes ++ Signed signs.Semicolon ∷ []
+stmt_spelled stated branched (Stmt-F.Choose alternatives) =
+    Key words.If ∷ listed (Signed signs.Bar) branched alternatives ++ Key words.Fi ∷ []
+stmt_spelled stated branched (Stmt-F.Pick name kind body) =
+    Key words.Pick ∷ Word name ∷ Signed signs.Colon ∷ Word kind ∷ Key words.In ∷ block_spelled stated body
 
 -- guard -> block
 abbrev pub branch_spelled : {S : Type 0} → (S → List Token) → Guard → List S → List Token
@@ -144,7 +150,9 @@ abbrev pub spell_of_block : List Stmt → List Token
 spell_of_block = block_spelled spell_of_statement
 
 abbrev pub spell_of_relation : Relation → List Token
-spell_of_relation relation = Key words.Relation ∷ Word relation.name ∷ Signed signs.OpenParen ∷ with_commas word relation.kinds ++ Signed signs.CloseParen ∷ Signed signs.Semicolon ∷ []
+spell_of_relation relation =
+    Key words.Relation ∷ Word relation.name ∷ Signed signs.OpenParen ∷ with_commas word relation.kinds
+    ++ Signed signs.CloseParen ∷ Signed signs.Semicolon ∷ []
 
 abbrev pub spell_of_handler : Handler → List Token
 spell_of_handler handler = Key words.On ∷ Word handler.port ∷ Signed signs.Colon ∷ spell_of_block handler.body
@@ -163,14 +171,21 @@ spell_of_first [] = []
 spell_of_first (atom ∷ atoms) = Key words.With ∷ with_commas spell_of_atom (atom ∷ atoms)
 
 abbrev pub spell_of_item : Item → List Token
-spell_of_item (Kind name values) = Key words.Kind ∷ Word name ∷ Signed signs.Equals ∷ Signed signs.OpenBrace ∷ with_commas word values ++ Signed signs.CloseBrace ∷ Signed signs.Semicolon ∷ []
-spell_of_item (Field name kind) = Key words.Field ∷ Word name ∷ Signed signs.Colon ∷ Word kind ∷ Signed signs.Semicolon ∷ []
+spell_of_item (Kind name values) =
+    Key words.Kind ∷ Word name ∷ Signed signs.Equals ∷ Signed signs.OpenBrace ∷ with_commas word values
+    ++ Signed signs.CloseBrace ∷ Signed signs.Semicolon ∷ []
+spell_of_item (Field name kind) =
+    Key words.Field ∷ Word name ∷ Signed signs.Colon ∷ Word kind ∷ Signed signs.Semicolon ∷ []
 spell_of_item (OfClass class) = spell_of_class class
 spell_of_item (Host name) = Key words.Host ∷ Word name ∷ Signed signs.Semicolon ∷ []
-spell_of_item (Instance name class first) = Key words.Box ∷ Word name ∷ Signed signs.Colon ∷ Word class ∷ spell_of_first first ++ Signed signs.Semicolon ∷ []
-spell_of_item (Link one two) = Key words.Link ∷ spell_of_end one ++ (Signed signs.Dashes ∷ spell_of_end two ++ Signed signs.Semicolon ∷ [])
-spell_of_item (Sends host pattern) = Key words.Sends ∷ Word host ∷ Signed signs.Colon ∷ spell_of_pattern pattern ++ Signed signs.Semicolon ∷ []
-spell_of_item (Forbid host pattern) = Key words.Forbid ∷ Word host ∷ Signed signs.Colon ∷ spell_of_pattern pattern ++ Signed signs.Semicolon ∷ []
+spell_of_item (Instance name class first) =
+    Key words.Box ∷ Word name ∷ Signed signs.Colon ∷ Word class ∷ spell_of_first first ++ Signed signs.Semicolon ∷ []
+spell_of_item (Link one two) =
+    Key words.Link ∷ spell_of_end one ++ (Signed signs.Dashes ∷ spell_of_end two ++ Signed signs.Semicolon ∷ [])
+spell_of_item (Sends host pattern) =
+    Key words.Sends ∷ Word host ∷ Signed signs.Colon ∷ spell_of_pattern pattern ++ Signed signs.Semicolon ∷ []
+spell_of_item (Forbid host pattern) =
+    Key words.Forbid ∷ Word host ∷ Signed signs.Colon ∷ spell_of_pattern pattern ++ Signed signs.Semicolon ∷ []
 
 -- the head, then the items in order
 abbrev pub spell : Tree → List Token

@@ -3,7 +3,9 @@ use Rattle.std.specs.Prelude.{◌≡◌, ◌≤◌, ◌+◌, ◌-◌, ◌*◌, �
 use Rattle.std.specs.List.{list_all}
 use Rattle.amdl_tree.specs.Word.{IsName, spelling_of_reserved}
 use Rattle.amdl_tree.specs.declared.token.Sign.{Sign}
-use Rattle.amdl_tree.specs.declared.token.Sign.TheVariants.{Semicolon, Colon, Becomes, Comma, Point, OpenBrace, CloseBrace, OpenParen, CloseParen, OpenBracket, CloseBracket, Equals, Differs, Arrow, Dashes, Bar}
+use Rattle.amdl_tree.specs.declared.token.Sign.TheVariants.{Semicolon, Colon, Becomes, Comma, Point, OpenBrace}
+use Rattle.amdl_tree.specs.declared.token.Sign.TheVariants.{CloseBrace, OpenParen, CloseParen, OpenBracket}
+use Rattle.amdl_tree.specs.declared.token.Sign.TheVariants.{CloseBracket, Equals, Differs, Arrow, Dashes, Bar}
 use Rattle.amdl_tree.specs.declared.token.Token.{Token}
 use Rattle.amdl_tree.specs.declared.token.Token.TheVariants.{Word, Number, Key, Sign as Signed}
 
@@ -39,7 +41,8 @@ IsNumber (first ∷ others) = (is_digit first ≡ true) × (list_all is_digit ot
 abbrev pub value_of_digits : List ℕ → ℕ
 value_of_digits digits = fold (λ value digit. 10 * value + (digit - 48)) 0 digits
 
--- the token is spelled so: a name and a sign in one way each, a number also with zeros in front, of at most 9 digits in all
+-- the token is spelled so: a name and a sign in one way each, a number also with zeros in front, of at most 9 digits in
+-- all
 abbrev pub SpellsToken : Token → List ℕ → Type 0
 SpellsToken (Word name) bytes = IsName name × (bytes ≡ name)
 SpellsToken (Number value) bytes = IsNumber bytes × (length bytes ≤ 9) × (value ≡ value_of_digits bytes)

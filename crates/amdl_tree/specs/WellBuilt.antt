@@ -18,7 +18,8 @@ use Rattle.amdl_tree.specs.declared.tree.Equal.{Equal}
 use Rattle.amdl_tree.specs.declared.tree.End.{End}
 use Rattle.amdl_tree.specs.declared.tree.End.TheVariants.{Host as AtHost, Port as AtPort}
 use Rattle.amdl_tree.specs.declared.tree.Item.{Item}
-use Rattle.amdl_tree.specs.declared.tree.Item.TheVariants.{Kind, Field, Class as OfClass, Host, Instance, Link, Sends, Forbid}
+use Rattle.amdl_tree.specs.declared.tree.Item.TheVariants.{Kind, Field, Class as OfClass, Host, Instance, Link, Sends}
+use Rattle.amdl_tree.specs.declared.tree.Item.TheVariants.{Forbid}
 use Rattle.amdl_tree.specs.declared.tree.Tree.{Tree}
 
 -- one or more, of which each is so
@@ -73,7 +74,8 @@ AlternativeLayer guarded stated alternative = guarded alternative.guard × All s
 -- well built, and at most n of its `if`s, `pick`s, `not`s and groups stand within one another
 unfoldable pub StmtFits : ℕ → Stmt → Type 0
 StmtFits zero stmt = StmtLayer (λ branches. ⊥) (λ block. ⊥) (out-Stmt stmt)
-StmtFits (suc n) stmt = StmtLayer (OneOrMore (AlternativeLayer (GuardFits n) (StmtFits n))) (All (StmtFits n)) (out-Stmt stmt)
+StmtFits (suc n) stmt =
+    StmtLayer (OneOrMore (AlternativeLayer (GuardFits n) (StmtFits n))) (All (StmtFits n)) (out-Stmt stmt)
 
 -- the same of an alternative, apart from its `if`
 abbrev pub AlternativeFits : ℕ → Alternative → Type 0

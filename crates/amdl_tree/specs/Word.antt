@@ -1,8 +1,12 @@
 -- Words, names and reserved words.
-use Rattle.std.specs.Prelude.{◌≡◌, ◌≢◌, ◌≤◌, ℕ, Bool, true, ◌&&◌, ◌||◌, false, nat_le, ◌==◌, List, [], ◌∷◌, length, codes}
+use Rattle.std.specs.Prelude.{◌≡◌, ◌≢◌, ◌≤◌, ℕ, Bool, true, ◌&&◌, ◌||◌, false, nat_le, ◌==◌, List, [], ◌∷◌, length}
+use Rattle.std.specs.Prelude.{codes}
 use Rattle.std.specs.List.{list_all}
 use Rattle.amdl_tree.specs.declared.reserved.Reserved.{Reserved}
-use Rattle.amdl_tree.specs.declared.reserved.Reserved.TheVariants.{Network, Kind, Field, Middlebox, Port, Relation, On, Host, Box, With, Link, Sends, Forbid, Insert, Remove, Output, Abort, If, Fi, Pick, In, Has, Not, And, Or, True, Add, Drop, Swap, Verdict, Invariant}
+use Rattle.amdl_tree.specs.declared.reserved.Reserved.TheVariants.{Network, Kind, Field, Middlebox, Port, Relation, On}
+use Rattle.amdl_tree.specs.declared.reserved.Reserved.TheVariants.{Host, Box, With, Link, Sends, Forbid, Insert, Remove}
+use Rattle.amdl_tree.specs.declared.reserved.Reserved.TheVariants.{Output, Abort, If, Fi, Pick, In, Has, Not, And, Or}
+use Rattle.amdl_tree.specs.declared.reserved.Reserved.TheVariants.{True, Add, Drop, Swap, Verdict, Invariant}
 
 -- an ASCII letter or an underscore starts a word
 abbrev pub starts_word : ℕ → Bool

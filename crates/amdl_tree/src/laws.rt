@@ -1,6 +1,8 @@
 //! Laws over the definitions, each the contract of a function that does nothing.
 ghost use Rattle.std.specs.Prelude.{◌≡◌};
-ghost use Rattle.amdl_tree.specs.Laws.{StandsOnce, LayoutIsOneToOne, LayoutStands, SpellingIsOneToOne, FileIsOfOneTree, LayoutIsFile, PartsAreSpelledOnce, BuiltByParts, FitsByDepth, ShapedByDepth, WordsSplit, ReservedDiffer, DerivableIsLeast};
+ghost use Rattle.amdl_tree.specs.Laws.{StandsOnce, LayoutIsOneToOne, LayoutStands, SpellingIsOneToOne, FileIsOfOneTree};
+ghost use Rattle.amdl_tree.specs.Laws.{LayoutIsFile, PartsAreSpelledOnce, BuiltByParts, FitsByDepth, ShapedByDepth};
+ghost use Rattle.amdl_tree.specs.Laws.{WordsSplit, ReservedDiffer, DerivableIsLeast};
 ghost use Rattle.amdl_tree.specs.Layout.{layout_of_tree};
 ghost use Rattle.amdl_tree.specs.Spelling.{spell};
 ghost use Rattle.amdl_tree.specs.WellBuilt.{IsWellBuilt};
@@ -18,8 +20,8 @@ pub fn layout_is_one_to_one()
     ensures { LayoutIsOneToOne }
 {}
 
-/// The canonical layout of a tree that a text can spell, read as a text, is the spelling of the tree, each token the longest
-/// that starts at its place.
+/// The canonical layout of a tree that a text can spell, read as a text, is the spelling of the tree, each token the
+/// longest that starts at its place.
 pub fn layout_stands_for_spelling()
     ensures { LayoutStands }
 {}

@@ -1,4 +1,5 @@
-use Rattle.amdl_tree.proofs.BuiltLemmas.{guard-built, guard-open, lit-built, lit-open, alternative-built, alternative-open, stmt-built, stmt-open}
+use Rattle.amdl_tree.proofs.BuiltLemmas.{guard-built, guard-open, lit-built, lit-open, alternative-built}
+use Rattle.amdl_tree.proofs.BuiltLemmas.{alternative-open, stmt-built, stmt-open}
 use Rattle.amdl_tree.proofs.laws.built_by_parts.Goals as goal
 
 pub returns : goal.returns

@@ -33,7 +33,8 @@ the_weighed weight = weight
 abbrev field : Former {0}
 field =
     via (pair (const (Ptr × Global)) this) Inside (λ X boxed. ((boxed.kept.ptr, boxed.kept.alloc), boxed.kept.value))
-    (λ X parts. record { kept = record { ptr = parts.0.0; alloc = parts.0.1; value = parts.1 } }) (λ X boxed. refl) (λ X parts. refl)
+    (λ X parts. record { kept = record { ptr = parts.0.0; alloc = parts.0.1; value = parts.1 } }) (λ X boxed. refl)
+    (λ X parts. refl)
 
 -- the same box with another value in it
 abbrev refilled : {X Y : Type 0} → Box X Global → Y → Box Y Global
@@ -47,18 +48,29 @@ module _ (R S : RattleType) (h : R.Denot → S.Denot) where
   unfolding part_of
   box_places alike = record {
     mir_same = λ i. (box_of (one_value R (alike.mir_same i) (λ _. ftrue) (λ _ _. nothing) gnil)).mir;
-    own_same = λ kept i. (box_of (one_value R (alike.mir_same i) (alike.own_same kept.value i) (alike.shr_same kept.value i) gnil)).own_val (refilled kept tt);
-    shr_same = λ kept i. (box_of (one_value R (alike.mir_same i) (alike.own_same kept.value i) (alike.shr_same kept.value i) gnil)).shr_at (refilled kept tt);
+    own_same =
+        λ kept i.
+        (box_of
+        (one_value R (alike.mir_same i) (alike.own_same kept.value i) (alike.shr_same kept.value i) gnil)).own_val
+        (refilled kept tt);
+    shr_same =
+        λ kept i.
+        (box_of
+        (one_value R (alike.mir_same i) (alike.own_same kept.value i) (alike.shr_same kept.value i) gnil)).shr_at
+        (refilled kept tt);
   }
 
-  pub the_places : Alike R S h → Alike (contract.the_row R) (contract.the_row S) ((the_former this).map R.Denot S.Denot h)
+  pub the_places : Alike R S h →
+      Alike (contract.the_row R) (contract.the_row S) ((the_former this).map R.Denot S.Denot h)
   the_places alike =
       view_places field this view (λ X Y k u. refl) (λ X u. refl) R.Denot S.Denot h
       (contract.the_row R).coded (contract.the_row S).coded
       (invariant R.Denot) (invariant S.Denot) (λ u p q. refl) (λ u p q. refl) (λ u e. tt) (λ u e. tt)
       (over (inside.the_row R)) (over (inside.the_row S))
-      (struct_places (inside.the_type R) (inside.the_type S) ((λ kept. refilled kept (h kept.value)), tt) _ (λ d. refl) refl
+      (struct_places (inside.the_type R) (inside.the_type S) ((λ kept. refilled kept (h kept.value)), tt) _
+      (λ d. refl) refl
       (laid _ _ _ (box_places alike), tt))
 
-  pub the_codes_placed : Recodes R S h → Recodes (contract.the_row R) (contract.the_row S) ((the_former this).map R.Denot S.Denot h)
+  pub the_codes_placed : Recodes R S h →
+      Recodes (contract.the_row R) (contract.the_row S) ((the_former this).map R.Denot S.Denot h)
   the_codes_placed recodes value = recodes value

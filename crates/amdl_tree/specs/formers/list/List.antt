@@ -37,10 +37,12 @@ the_items_listed X items = list-listed X items
 
 -- the one field, a `Vec` over the global allocator
 abbrev field : Former {0}
-field = via (vec.the_former this Global) Inside (λ X list. list.items) (λ X items. record { items = items }) (λ X list. refl) (λ X items. refl)
+field = via (vec.the_former this Global) Inside (λ X list. list.items) (λ X items. record { items = items })
+    (λ X list. refl) (λ X items. refl)
 
 module _ (R S : RattleType) (h : R.Denot → S.Denot) where
-  pub the_places : Alike R S h → Alike (contract.the_row R) (contract.the_row S) ((the_former this).map R.Denot S.Denot h)
+  pub the_places : Alike R S h →
+      Alike (contract.the_row R) (contract.the_row S) ((the_former this).map R.Denot S.Denot h)
   the_places alike =
       view_places field (list this) view (λ X Y k u. refl) (λ X u. refl) R.Denot S.Denot h
       (contract.the_row R).coded (contract.the_row S).coded
@@ -49,5 +51,6 @@ module _ (R S : RattleType) (h : R.Denot → S.Denot) where
       (struct_places (inside.the_type R) (inside.the_type S) (vec.mapped h, tt) _ (λ d. refl) refl
       (laid _ _ _ (vec.the_places heap.the_row ghosts R S h alike), tt))
 
-  pub the_codes_placed : Recodes R S h → Recodes (contract.the_row R) (contract.the_row S) ((the_former this).map R.Denot S.Denot h)
+  pub the_codes_placed : Recodes R S h →
+      Recodes (contract.the_row R) (contract.the_row S) ((the_former this).map R.Denot S.Denot h)
   the_codes_placed recodes items = sym (code_map R.coded.code S.coded.code h (λ x. sym (recodes x)) items)

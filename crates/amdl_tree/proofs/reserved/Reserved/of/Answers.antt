@@ -5,4 +5,5 @@ use Rattle.amdl_tree.proofs.reserved.Reserved.of.Goals as goal
 
 pub returns : goal.returns
 returns c =
-    none_of_them c.first_spelled.result c.args.bytes.now c.of_length.result.now (λ word. c.args.bytes.now ≡ spelling_of_reserved word) c.of_length.ensures c.first_spelled.ensures
+    none_of_them c.first_spelled.result c.args.bytes.now c.of_length.result.now
+    (λ word. c.args.bytes.now ≡ spelling_of_reserved word) c.of_length.ensures c.first_spelled.ensures
