@@ -1,5 +1,6 @@
 -- The example of two fields of two values.
-use Rattle.std.proofs.Common.{◌≡◌, ℕ, zero, suc, ◌<◌, ◌/◌, ◌%◌, List, [], ◌∷◌, Option, Some, slice_set, sym, subst, refl, arith}
+use Rattle.std.proofs.Common.{◌≡◌, ℕ, zero, suc, ◌<◌, ◌/◌, ◌%◌, List, [], ◌∷◌, Option, Some, slice_set, sym, subst}
+use Rattle.std.proofs.Common.{refl, arith}
 use Rattle.header_set.specs.Headers.{field_of}
 use Rattle.header_set.specs.Pattern.{any_pattern, fixed_at, Matches}
 use Rattle.header_set.specs.Laws.{SmallFields, SmallMatch}

@@ -1,10 +1,12 @@
 -- Products, weights and fields of lists of sizes.
-use Rattle.std.proofs.Common.{◌≡◌, ◌≢◌, ℕ, zero, suc, ◌≤◌, ◌<◌, ◌+◌, ◌-◌, ◌*◌, ◌/◌, ◌%◌, add-one, List, [], ◌∷◌, length, take, drop, get_or, ◌∙◌, sym, ap, refl, arith, subst, drop-cons, ◌⊎◌, inl, inr}
+use Rattle.std.proofs.Common.{◌≡◌, ◌≢◌, ℕ, zero, suc, ◌≤◌, ◌<◌, ◌+◌, ◌-◌, ◌*◌, ◌/◌, ◌%◌, add-one, List, [], ◌∷◌, length}
+use Rattle.std.proofs.Common.{take, drop, get_or, ◌∙◌, sym, ap, refl, arith, subst, drop-cons, ◌⊎◌, inl, inr}
 use Rattle.std.proofs.lemmas.List.{get_or-drop, drop_all, drop-drop, length-drop}
 use Rattle.std.proofs.lemmas.Nat.{div-mul-add, mod-mul-add, mul-add-lt, div_below, div-add-mod'}
 use Rattle.std.proofs.Math.Seq.{take-length}
 use Rattle.std.proofs.Math.Arith.{mod-mul}
-use Rattle.std.proofs.Math.Nat.{mod-mod_of_dvd, div-div-eq-div-mul, dvd-mul_right, mul_comm, mul_assoc, mul-pos, mod-lt, mod-eq_of_lt, le-mul_of_pos_right, mul-le-mul_left, mul-le-mul_right}
+use Rattle.std.proofs.Math.Nat.{mod-mod_of_dvd, div-div-eq-div-mul, dvd-mul_right, mul_comm, mul_assoc, mul-pos, mod-lt}
+use Rattle.std.proofs.Math.Nat.{mod-eq_of_lt, le-mul_of_pos_right, mul-le-mul_left, mul-le-mul_right}
 use Rattle.header_set.specs.Headers.{product, weight, field_of, FirstSizesFit, IsHeaders, IsWith}
 
 -- each size of the list is at least 1
@@ -222,12 +224,16 @@ replaced_parts sizes p k x q all packet h fits parts =
     let whole_is : whole ≡ size * step = product-drop sizes k h in
     let low_fits : low < step = mod-lt p step_pos in
     let middle_fits : x * step + low < whole =
-    subst (λ (n : ℕ). x * step + low < n) (mul_comm step size ∙ sym whole_is) (mul-add-lt x step low size fits low_fits) in
+    subst (λ (n : ℕ). x * step + low < n) (mul_comm step size ∙ sym whole_is)
+    (mul-add-lt x step low size fits low_fits) in
     let by_step : q ≡ (high * size + x) * step + low =
     parts ∙ ap (λ (n : ℕ). high * n + (x * step + low)) whole_is ∙ omega arith in
-    let quotient : q / whole ≡ high = ap (λ (n : ℕ). n / whole) parts ∙ div-mul-add high whole (x * step + low) middle_fits in
-    let remainder : q % step ≡ low = ap (λ (n : ℕ). n % step) by_step ∙ mod-mul-add (high * size + x) step low low_fits in
-    let digits : q / step ≡ high * size + x = ap (λ (n : ℕ). n / step) by_step ∙ div-mul-add (high * size + x) step low low_fits in
+    let quotient : q / whole ≡ high =
+    ap (λ (n : ℕ). n / whole) parts ∙ div-mul-add high whole (x * step + low) middle_fits in
+    let remainder : q % step ≡ low =
+    ap (λ (n : ℕ). n % step) by_step ∙ mod-mul-add (high * size + x) step low low_fits in
+    let digits : q / step ≡ high * size + x =
+    ap (λ (n : ℕ). n / step) by_step ∙ div-mul-add (high * size + x) step low low_fits in
     let all_multiple = multiple_of_rest sizes k in
     let high_fits : high < all_multiple.0 =
     div_below p whole all_multiple.0 whole_pos
@@ -277,7 +283,8 @@ pos_of_product n a (suc m) h same = omega arith
 pub rest_within : (sizes : List ℕ) (n : ℕ) → EachPositive sizes → product (drop n sizes) ≤ product sizes
 rest_within sizes n all =
     let multiple = multiple_of_rest sizes n in
-    let some : 0 < multiple.0 = pos_of_product (product sizes) (product (drop n sizes)) multiple.0 (product_positive sizes all) multiple.1 in
+    let some : 0 < multiple.0 =
+    pos_of_product (product sizes) (product (drop n sizes)) multiple.0 (product_positive sizes all) multiple.1 in
     subst (λ (m : ℕ). product (drop n sizes) ≤ m) (sym multiple.1) (le-mul_of_pos_right (product (drop n sizes)) some)
 
 pub block_within : (sizes : List ℕ) (k : ℕ) → EachPositive sizes → k < length sizes →

@@ -1,5 +1,6 @@
 -- A list of headers and zeros after it, as an array.
-use Rattle.std.proofs.Common.{◌≡◌, ℕ, ◌+◌, ◌-◌, ◌≤◌, List, ◌++◌, length, drop, replicate, ap, sym, ◌∙◌, subst, arith, length-append}
+use Rattle.std.proofs.Common.{◌≡◌, ℕ, ◌+◌, ◌-◌, ◌≤◌, List, ◌++◌, length, drop, replicate, ap, sym, ◌∙◌, subst, arith}
+use Rattle.std.proofs.Common.{length-append}
 use Rattle.std.proofs.lemmas.List.{drop-replicate, length-replicate}
 use Rattle.std.proofs.Math.Seq.{take-append_seam, drop-append_seam}
 use Rattle.header_set.specs.Headers.{IsHeaders}
@@ -21,7 +22,8 @@ fills n m same within = omega arith
 pub stored_padded : (sizes : List ℕ) → IsHeaders sizes → IsStored (sizes ++ zeros_after sizes) (length sizes)
 stored_padded sizes headers = record {
   headers = subst IsHeaders (sym (take-append_seam sizes (zeros_after sizes))) headers;
-  room = length-append sizes (zeros_after sizes) ∙ fills (length sizes) (length (zeros_after sizes)) (left_over_length sizes) headers.counted.1;
+  room = length-append sizes (zeros_after sizes)
+      ∙ fills (length sizes) (length (zeros_after sizes)) (left_over_length sizes) headers.counted.1;
   counted = headers.counted.1;
   spare = drop-append_seam sizes (zeros_after sizes) ∙ left_over sizes;
 }

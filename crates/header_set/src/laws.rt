@@ -1,6 +1,7 @@
 //! What holds of the numbering: each function does nothing, and its contract is the law.
 
-ghost use Rattle.header_set.specs.Laws.{FieldsAreBelowSizes, FieldsDeterminePacket, FieldsAreFree, ReplacedIsUnique, SmallFields, SmallMatch};
+ghost use Rattle.header_set.specs.Laws.{FieldsAreBelowSizes, FieldsDeterminePacket, FieldsAreFree, ReplacedIsUnique};
+ghost use Rattle.header_set.specs.Laws.{SmallFields, SmallMatch};
 
 /// Each field of a packet is below the size of the field.
 pub fn fields_are_below_sizes()

@@ -2,8 +2,10 @@
 //! number of these values, of which the first declared field is the most significant one.
 #![tactic(auto)]
 
-ghost use Rattle.std.specs.Prelude.{◌≡◌, ℕ, ◌≤◌, ◌<◌, ◌+◌, ◌-◌, ◌↔◌, List, Option, Some, None, [], ◌∷◌, length, take, slice_index, slice_set, IsTrue, IsOk, IfOk, IsErrOf};
-ghost use Rattle.header_set.specs.Headers.{product, field_of, HasFieldCount, IsHeaders, IsFirstUnfit, HasTooManyPackets, IsWith};
+ghost use Rattle.std.specs.Prelude.{◌≡◌, ℕ, ◌≤◌, ◌<◌, ◌+◌, ◌-◌, ◌↔◌, List, Option, Some, None, [], ◌∷◌, length, take};
+ghost use Rattle.std.specs.Prelude.{slice_index, slice_set, IsTrue, IsOk, IfOk, IsErrOf};
+ghost use Rattle.header_set.specs.Headers.{product, field_of, HasFieldCount, IsHeaders, IsFirstUnfit};
+ghost use Rattle.header_set.specs.Headers.{HasTooManyPackets, IsWith};
 ghost use Rattle.header_set.specs.Pattern.{any_pattern, fixed_at, Matches};
 
 pub mod laws;
