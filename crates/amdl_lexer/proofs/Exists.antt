@@ -1,5 +1,7 @@
 -- Each text has an answer.
-use Rattle.std.proofs.Common.{◌≡◌, ◌≢◌, ◌≤◌, ◌<◌, ◌+◌, ◌-◌, ℕ, zero, suc, Bool, true, false, List, [], ◌∷◌, ◌++◌, length, take, drop, get_or, refl, sym, ap, ◌∙◌, subst, arith, inl, inr, ◌⊎◌, Option, Some, None, MatchOption, Result, Ok, Err}
+use Rattle.std.proofs.Common.{◌≡◌, ◌≢◌, ◌≤◌, ◌<◌, ◌+◌, ◌-◌, ℕ, zero, suc, Bool, true, false, List, [], ◌∷◌, ◌++◌}
+use Rattle.std.proofs.Common.{length, take, drop, get_or, refl, sym, ap, ◌∙◌, subst, arith, inl, inr, ◌⊎◌, Option, Some}
+use Rattle.std.proofs.Common.{None, MatchOption, Result, Ok, Err}
 use Rattle.std.specs.List.{find, prefix_len}
 use Rattle.std.specs.Str.{bytes_eq}
 use Rattle.std.proofs.lemmas.Bool.{cases_Bool, cases_lt, cases_eq}
@@ -24,7 +26,8 @@ use Rattle.amdl_lexer.specs.declared.front.Front.TheVariants as fronts
 use Rattle.amdl_lexer.specs.declared.lexing.LexRefusal.{LexRefusal}
 use Rattle.amdl_lexer.specs.declared.lexing.LexRefusal.TheVariants.{BadByte, WordTooLong, TooManyTokens}
 use Rattle.amdl_lexer.proofs.Signs.{two_front, one_front, last_front, sign_front}
-use Rattle.amdl_lexer.proofs.Fronts.{in_line, blank_front, comment_front, word_begun, word_good, number_begun, number_good, overlong_front, nothing_front}
+use Rattle.amdl_lexer.proofs.Fronts.{in_line, blank_front, comment_front, word_begun, word_good, number_begun}
+use Rattle.amdl_lexer.proofs.Fronts.{number_good, overlong_front, nothing_front}
 use Rattle.amdl_lexer.proofs.Pieces.{reads_none, step_gap, step_token}
 
 -- what is found passes the test
@@ -40,25 +43,31 @@ find_passes test (y ∷ ys) x e =
     ]
 
 -- which reserved word, or which sign, the bytes are
-word_decided : (bytes : List ℕ) (found : Option Reserved) → word_of bytes ≡ found → MatchOption found ((word : Reserved) → bytes ≢ spelling_of_reserved word) (λ word. bytes ≡ spelling_of_reserved word)
+word_decided : (bytes : List ℕ) (found : Option Reserved) → word_of bytes ≡ found →
+    MatchOption found ((word : Reserved) → bytes ≢ spelling_of_reserved word)
+    (λ word. bytes ≡ spelling_of_reserved word)
 word_decided bytes None e = λ word s.
     let found : word_of bytes ≡ Some word = ap word_of s ∙ word_of-spelling word in
     cc
 word_decided bytes (Some word) e =
-    (bytes_eq-Decides bytes (spelling_of_reserved word)).0 (find_passes (λ w. bytes_eq bytes (spelling_of_reserved w)) table word e)
+    (bytes_eq-Decides bytes (spelling_of_reserved word)).0
+    (find_passes (λ w. bytes_eq bytes (spelling_of_reserved w)) table word e)
 
-sign_decided : (bytes : List ℕ) (found : Option Sign) → sign_of bytes ≡ found → MatchOption found ((sign : Sign) → spelling_of_sign sign ≢ bytes) (λ sign. spelling_of_sign sign ≡ bytes)
+sign_decided : (bytes : List ℕ) (found : Option Sign) → sign_of bytes ≡ found →
+    MatchOption found ((sign : Sign) → spelling_of_sign sign ≢ bytes) (λ sign. spelling_of_sign sign ≡ bytes)
 sign_decided bytes None e = λ sign s.
     let found : sign_of bytes ≡ Some sign = ap sign_of (sym s) ∙ sign_found sign in
     cc
 sign_decided bytes (Some sign) e =
-    sym ((bytes_eq-Decides bytes (spelling_of_sign sign)).0 (find_passes (λ x. bytes_eq bytes (spelling_of_sign x)) signs sign e))
+    sym ((bytes_eq-Decides bytes (spelling_of_sign sign)).0
+    (find_passes (λ x. bytes_eq bytes (spelling_of_sign x)) signs sign e))
 
 -- a word or a number is too long, or spells a token
 abbrev SpellsSome : List ℕ → Type 0
 SpellsSome bytes = (token : Token) × SpellsToken token bytes
 
-word_spells : (word : List ℕ) (found : Option Reserved) → word_of word ≡ found → IsWord word → IsOverlong word ⊎ SpellsSome word
+word_spells : (word : List ℕ) (found : Option Reserved) → word_of word ≡ found → IsWord word →
+    IsOverlong word ⊎ SpellsSome word
 word_spells word None e is =
     elim (cases_lt 24 (length word)) [
       | inl long ↦ inl (inl (is, long))
@@ -77,10 +86,14 @@ number_spells number is =
 abbrev SignAt : List ℕ → Type 0
 SignAt text = (found : Option Sign) × MatchOption found (StartsNoSign text) (IsLongestSign text)
 
-sign_of_two : (text : List ℕ) (found : Option Sign) → sign_of (get_or text 0 0 ∷ get_or text 1 0 ∷ []) ≡ found → 2 ≤ length text → SignAt text
+sign_of_two : (text : List ℕ) (found : Option Sign) → sign_of (get_or text 0 0 ∷ get_or text 1 0 ∷ []) ≡ found →
+    2 ≤ length text → SignAt text
 sign_of_two text None e two =
-    let one : Option Sign = sign_of (get_or text 0 0 ∷ []) in
-    (one, one_front text one two (sign_decided (get_or text 0 0 ∷ get_or text 1 0 ∷ []) None e) (sign_decided (get_or text 0 0 ∷ []) one refl))
+    let one : Option Sign = sign_of (get_or text 0 0 ∷ []) in (
+      one,
+      one_front text one two (sign_decided (get_or text 0 0 ∷ get_or text 1 0 ∷ []) None e)
+          (sign_decided (get_or text 0 0 ∷ []) one refl),
+    )
 sign_of_two text (Some sign) e two =
     (Some sign, two_front text sign two (sign_decided (get_or text 0 0 ∷ get_or text 1 0 ∷ []) (Some sign) e))
 
@@ -115,10 +128,14 @@ number_stands text some digit =
       | inr good ↦ (fronts.Good good.0 size, number_good text size good.0 some digit refl good.1)
     ]
 
-sign_stands : (text : List ℕ) → 0 < length text → is_blank (get_or text 0 0) ≡ false → get_or text 0 0 ≢ 35 → starts_word (get_or text 0 0) ≡ false → is_digit (get_or text 0 0) ≡ false → SignAt text → FrontOf text
-sign_stands text some blank hash starts digit (None, none) = (fronts.Nothing, nothing_front text some blank hash starts digit none)
-sign_stands text some blank hash starts digit (Some sign, here) =
-    (fronts.Good (Signed sign) (length (spelling_of_sign sign)), sign_front text sign (length (spelling_of_sign sign)) here refl)
+sign_stands : (text : List ℕ) → 0 < length text → is_blank (get_or text 0 0) ≡ false → get_or text 0 0 ≢ 35 →
+    starts_word (get_or text 0 0) ≡ false → is_digit (get_or text 0 0) ≡ false → SignAt text → FrontOf text
+sign_stands text some blank hash starts digit (None, none) =
+    (fronts.Nothing, nothing_front text some blank hash starts digit none)
+sign_stands text some blank hash starts digit (Some sign, here) = (
+  fronts.Good (Signed sign) (length (spelling_of_sign sign)),
+  sign_front text sign (length (spelling_of_sign sign)) here refl,
+)
 
 front_stands : (text : List ℕ) → 0 < length text → FrontOf text
 front_stands text some =
@@ -143,8 +160,10 @@ abbrev rest_at : List ℕ → ℕ → List ℕ
 rest_at text at = take (length text - at) (drop at text)
 
 -- one step, from which the text is read further on
-one_step : (text : List ℕ) (at : ℕ) (tokens : List Lexed) (front : Front) → Reads text at tokens → length tokens ≤ 1000000 → IsFront (rest_at text at) front →
-    ((end : ℕ) (more : List Lexed) → at < end → Reads text end more → length more ≤ 1000000 → Answered text) → Answered text
+one_step : (text : List ℕ) (at : ℕ) (tokens : List Lexed) (front : Front) → Reads text at tokens →
+    length tokens ≤ 1000000 → IsFront (rest_at text at) front →
+    ((end : ℕ) (more : List Lexed) → at < end → Reads text end more → length more ≤ 1000000 → Answered text) →
+    Answered text
 one_step text at tokens (fronts.Gap size) read few here on =
     on (at + size) tokens (omega (arith, here.0.some)) (step_gap text at size tokens read here) few
 one_step text at tokens (fronts.Good token size) read few here on =
@@ -152,20 +171,33 @@ one_step text at tokens (fronts.Good token size) read few here on =
     let more : Reads text (at + size) put = step_token text at size tokens token read here in
     let longer : length put ≡ length tokens + 1 = length_push tokens (lexed token at (at + size)) in
     elim (cases_eq (length tokens) 1000000) [
-      | inl full ↦ (Err TooManyTokens, (λ e. cc, record { at = at + size; tokens = put; read = more; many = omega arith }))
+      | inl full ↦
+          (Err TooManyTokens, (λ e. cc, record { at = at + size; tokens = put; read = more; many = omega arith }))
       | inr room ↦ on (at + size) put (omega (arith, here.0.some)) more (omega arith)
     ]
-one_step text at tokens fronts.Overlong read few here on =
-    (Err (WordTooLong at), (λ e. cc, record { tokens = tokens; read = read; few = few; fault = subst StartsOverlong (take_rest text at) here }))
-one_step text at tokens fronts.Nothing read few here on =
-    (Err (BadByte at), (λ e. cc, record { tokens = tokens; read = read; few = few; fault = subst StartsNothing (take_rest text at) here }))
+one_step text at tokens fronts.Overlong read few here on = (
+  Err (WordTooLong at),
+  (
+    λ e. cc,
+    record { tokens = tokens; read = read; few = few; fault = subst StartsOverlong (take_rest text at) here },
+  ),
+)
+one_step text at tokens fronts.Nothing read few here on = (
+  Err (BadByte at),
+  (
+    λ e. cc,
+    record { tokens = tokens; read = read; few = few; fault = subst StartsNothing (take_rest text at) here },
+  ),
+)
 
-at_end : (text : List ℕ) (at : ℕ) (tokens : List Lexed) → Reads text at tokens → length tokens ≤ 1000000 → length text ≤ at → Answered text
+at_end : (text : List ℕ) (at : ℕ) (tokens : List Lexed) → Reads text at tokens → length tokens ≤ 1000000 →
+    length text ≤ at → Answered text
 at_end text at tokens read few end =
     let all : at ≡ length text = omega (arith, read.within) in
     (Ok tokens, record { read = subst (λ n. Reads text n tokens) all read; few = few })
 
-answer_within : (left : ℕ) (text : List ℕ) (at : ℕ) (tokens : List Lexed) → length text - at ≤ left → Reads text at tokens → length tokens ≤ 1000000 → Answered text
+answer_within : (left : ℕ) (text : List ℕ) (at : ℕ) (tokens : List Lexed) → length text - at ≤ left →
+    Reads text at tokens → length tokens ≤ 1000000 → Answered text
 answer_within zero text at tokens enough read few = at_end text at tokens read few (omega arith)
 answer_within (suc left) text at tokens enough read few =
     elim (cases_lt at (length text)) [

@@ -10,7 +10,8 @@ use Rattle.amdl_lexer.specs.declared.lexing.LexRefusal.TheVariants.{BadByte, Wor
 -- the first byte is no blank and no `#`, and no word, number or sign starts with it
 abbrev pub StartsNothing : List ℕ → Type 0
 StartsNothing [] = ⊥
-StartsNothing (byte ∷ bytes) = (is_blank byte ≡ false) × (byte ≢ 35) × ((front rest : List ℕ) → byte ∷ bytes ≡ front ++ rest → ¬ IsLexeme front)
+StartsNothing (byte ∷ bytes) =
+    (is_blank byte ≡ false) × (byte ≢ 35) × ((front rest : List ℕ) → byte ∷ bytes ≡ front ++ rest → ¬ IsLexeme front)
 
 -- a word of more than 24 bytes or a number of more than 9 digits
 abbrev pub IsOverlong : List ℕ → Type 0

@@ -13,6 +13,7 @@ pub record Cuts (text : List ℕ) (size : ℕ) : Type 0 where
 
 abbrev pub IsFront : List ℕ → Front → Type 0
 IsFront text (Gap size) = Cuts text size × IsGap (take size text) (drop size text)
-IsFront text (Good token size) = Cuts text size × SpellsToken token (take size text) × IsLongest (take size text) (drop size text)
+IsFront text (Good token size) =
+    Cuts text size × SpellsToken token (take size text) × IsLongest (take size text) (drop size text)
 IsFront text Overlong = StartsOverlong text
 IsFront text Nothing = StartsNothing text

@@ -12,7 +12,8 @@ IsAnswer text (Err refusal) = (refusal ≢ NoMemory) × IsRefused text refusal
 
 -- no text has two answers
 abbrev pub OneAnswer : Type 0
-OneAnswer = (text : List ℕ) (one other : Result (List Lexed) LexRefusal) → IsAnswer text one → IsAnswer text other → one ≡ other
+OneAnswer =
+    (text : List ℕ) (one other : Result (List Lexed) LexRefusal) → IsAnswer text one → IsAnswer text other → one ≡ other
 
 -- each text has one
 abbrev pub SomeAnswer : Type 0

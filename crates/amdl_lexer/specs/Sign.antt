@@ -10,4 +10,5 @@ StartsNoSign text = (sign : Sign) (rest : List ℕ) → text ≢ spelling_of_sig
 pub record IsLongestSign (text : List ℕ) (sign : Sign) : Type 0 where
   pub rest : List ℕ
   pub whole : text ≡ spelling_of_sign sign ++ rest
-  pub longest : (other : Sign) (behind : List ℕ) → text ≡ spelling_of_sign other ++ behind → length (spelling_of_sign other) ≤ length (spelling_of_sign sign)
+  pub longest : (other : Sign) (behind : List ℕ) → text ≡ spelling_of_sign other ++ behind →
+      length (spelling_of_sign other) ≤ length (spelling_of_sign sign)

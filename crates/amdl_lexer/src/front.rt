@@ -1,4 +1,5 @@
-ghost use Rattle.std.specs.Prelude.{◌≡◌, ◌≢◌, ◌≤◌, ◌<◌, ◌==◌, length, not, MatchOption, List, [], ◌∷◌, slice_index, true};
+ghost use Rattle.std.specs.Prelude.{◌≡◌, ◌≢◌, ◌≤◌, ◌<◌, ◌==◌, length, not, MatchOption, List, [], ◌∷◌, slice_index};
+ghost use Rattle.std.specs.Prelude.{true};
 ghost use Rattle.std.specs.List.{prefix_len, list_all};
 ghost use Rattle.amdl_tree.specs.Word.{IsWord, starts_word, goes_on_with_word};
 ghost use Rattle.amdl_tree.specs.Token.{is_digit, IsNumber, value_of_digits, spelling_of_sign, SpellsToken};
@@ -157,7 +158,8 @@ fn value_of(digits: &[u8]) -> u32
 
 // The sign that is these two bytes.
 fn sign_of_two(first: u8, second: u8) -> Option<Sign>
-    ensures { MatchOption result ((sign : Sign) → spelling_of_sign sign ≢ first ∷ second ∷ []) (λ sign. spelling_of_sign sign ≡ first ∷ second ∷ []) }
+    ensures { MatchOption result ((sign : Sign) → spelling_of_sign sign ≢ first ∷ second ∷ [])
+        (λ sign. spelling_of_sign sign ≡ first ∷ second ∷ []) }
 {
     match (first, second) {
         (b':', b'=') => Some(Sign::Becomes),
@@ -170,7 +172,8 @@ fn sign_of_two(first: u8, second: u8) -> Option<Sign>
 
 // The sign that is this one byte.
 fn sign_of_one(byte: u8) -> Option<Sign>
-    ensures { MatchOption result ((sign : Sign) → spelling_of_sign sign ≢ byte ∷ []) (λ sign. spelling_of_sign sign ≡ byte ∷ []) }
+    ensures { MatchOption result ((sign : Sign) → spelling_of_sign sign ≢ byte ∷ [])
+        (λ sign. spelling_of_sign sign ≡ byte ∷ []) }
 {
     match byte {
         b';' => Some(Sign::Semicolon),

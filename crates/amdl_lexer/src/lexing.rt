@@ -1,6 +1,7 @@
 ghost use Rattle.std.specs.Prelude.{◌≡◌, ◌≤◌, ◌<◌, ℕ, length, List, [], Ok, Err, MatchResult};
 ghost use Rattle.amdl_tree.specs.declared.token.Lexed.{Lexed};
-ghost use Rattle.amdl_lexer.specs.Answer.{IsLexed, IsRefused, IsOrNoMemory, StopsAt, StartsNothing, StartsOverlong, IsOverfull};
+ghost use Rattle.amdl_lexer.specs.Answer.{IsLexed, IsRefused, IsOrNoMemory, StopsAt, StartsNothing, StartsOverlong};
+ghost use Rattle.amdl_lexer.specs.Answer.{IsOverfull};
 
 use crate::front::{Front, front_of};
 use amdl_tree::{Lexed, List, NoMemory};
@@ -43,8 +44,10 @@ pub fn lex(alloc: Global, bytes: &[u8]) -> Result<List<Lexed>, LexRefusal>
 
     // Each answer also comes wherever the text has its cause, unless memory runs out.
     ensures lexed { (tokens : List Lexed) → IsLexed bytes.now tokens → IsOrNoMemory result (Ok tokens) }
-    ensures bad_byte { (at : ℕ) → StopsAt StartsNothing bytes.now at → IsOrNoMemory result (Err (LexRefusal.BadByte at)) }
-    ensures too_long { (at : ℕ) → StopsAt StartsOverlong bytes.now at → IsOrNoMemory result (Err (LexRefusal.WordTooLong at)) }
+    ensures bad_byte { (at : ℕ) → StopsAt StartsNothing bytes.now at →
+        IsOrNoMemory result (Err (LexRefusal.BadByte at)) }
+    ensures too_long { (at : ℕ) → StopsAt StartsOverlong bytes.now at →
+        IsOrNoMemory result (Err (LexRefusal.WordTooLong at)) }
     ensures too_many { IsOverfull bytes.now → IsOrNoMemory result (Err LexRefusal.TooManyTokens) }
 {
     let mut tokens = List::new(alloc);

@@ -6,7 +6,8 @@ use Rattle.amdl_lexer.proofs.lexing.read.Goals as goal
 
 pub loop-at-preserved-in-Gap : goal.loop-at-preserved-in-Gap
 loop-at-preserved-in-Gap c = record {
-  read = step_gap c.args.bytes.now c.loop-at.at c.in-Gap.size c.loop-at.tokens c.loop-at.invariant.read c.in-Gap.ensures;
+  read = step_gap c.args.bytes.now c.loop-at.at c.in-Gap.size c.loop-at.tokens c.loop-at.invariant.read
+      c.in-Gap.ensures;
   few = c.loop-at.invariant.few;
 }
 
@@ -17,7 +18,8 @@ returns-then-as_slice-eq-MOST_TOKENS c =
     record {
       at = end;
       tokens = c.loop-at.tokens ++ token ∷ [];
-      read = step_token c.args.bytes.now c.loop-at.at c.in-Good.size c.loop-at.tokens c.in-Good.token c.loop-at.invariant.read c.in-Good.ensures;
+      read = step_token c.args.bytes.now c.loop-at.at c.in-Good.size c.loop-at.tokens c.in-Good.token
+          c.loop-at.invariant.read c.in-Good.ensures;
       many = omega (arith, length_push c.loop-at.tokens token, ap length c.as_slice.ensures);
     }
 
@@ -26,6 +28,13 @@ loop-at-preserved c =
     let end = c.loop-at.at + c.in-Good.size in
     let token = lexed c.in-Good.token c.loop-at.at end in
     record {
-      read = subst (Reads c.args.bytes.now end) (sym c.in_ok-push-in-Good.ensures.ok) (step_token c.args.bytes.now c.loop-at.at c.in-Good.size c.loop-at.tokens c.in-Good.token c.loop-at.invariant.read c.in-Good.ensures);
-      few = omega (arith, length_push c.loop-at.tokens token, ap length c.as_slice.ensures, ap length c.in_ok-push-in-Good.ensures.ok);
+      read = subst (Reads c.args.bytes.now end) (sym c.in_ok-push-in-Good.ensures.ok)
+          (step_token c.args.bytes.now c.loop-at.at c.in-Good.size c.loop-at.tokens c.in-Good.token
+          c.loop-at.invariant.read c.in-Good.ensures);
+      few = omega (
+        arith,
+        length_push c.loop-at.tokens token,
+        ap length c.as_slice.ensures,
+        ap length c.in_ok-push-in-Good.ensures.ok,
+      );
     }
