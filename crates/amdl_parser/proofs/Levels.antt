@@ -9,7 +9,10 @@ use Rattle.amdl_tree.specs.declared.reserved.Reserved.TheVariants as words
 use Rattle.amdl_parser.specs.declared.fault.Fault.{Fault}
 use Rattle.amdl_parser.specs.declared.fault.Fault.TheVariants.{Syntax, Deep, NoMemory}
 use Rattle.amdl_parser.specs.Reading.{Answer, Reads, tokens_of, too_deep, made_at, fixed_at, begins, refused}
-use Rattle.amdl_parser.specs.Grammar.{true_of, has_at, compared_at, lit_at, not_at, denied_at, group_at, grouped_at, guard_at, any_at, conj_at, insert_of, remove_of, update_at, output_at, abort_at, choose_at, chosen_at, pick_at, picked_at, block_at, statements_at, branch_at, branches_at, stmt_at}
+use Rattle.amdl_parser.specs.Grammar.{true_of, has_at, compared_at, lit_at, not_at, denied_at, group_at, grouped_at}
+use Rattle.amdl_parser.specs.Grammar.{guard_at, any_at, conj_at, insert_of, remove_of, update_at, output_at, abort_at}
+use Rattle.amdl_parser.specs.Grammar.{choose_at, chosen_at, pick_at, picked_at, block_at, statements_at, branch_at}
+use Rattle.amdl_parser.specs.Grammar.{branches_at, stmt_at}
 
 pub lit_is : (n : ℕ) (ts : List Token) → lit_at n ts ≡
     (if begins (Key words.True) ts then made_at true_of (fixed_at (Key words.True)) ts
@@ -34,7 +37,8 @@ stmt_is zero ts = refl
 stmt_is (suc n) ts = refl
 
 -- a result of a reading is one of a reading that is the same
-pub reads_as : {A : Type 0} (part other : List Token → Answer A) (before after : List Lexed) (r : Result A Fault) → ((ts : List Token) → other ts ≡ part ts) → Reads part before after r → Reads other before after r
+pub reads_as : {A : Type 0} (part other : List Token → Answer A) (before after : List Lexed) (r : Result A Fault) →
+    ((ts : List Token) → other ts ≡ part ts) → Reads part before after r → Reads other before after r
 reads_as part other before after (Ok x) same h = same (tokens_of before) ∙ h
 reads_as part other before after (Err (Syntax n)) same h = same (tokens_of before) ∙ h
 reads_as part other before after (Err (Deep n)) same h = same (tokens_of before) ∙ h

@@ -31,18 +31,24 @@ or_none answer (Err (Syntax k)) e = inl (sym e)
 or_none answer (Err (Deep k)) e = inl (sym e)
 or_none answer (Err NoMemory) e = inr refl
 
-is_right : (ts : List Token) (answer result : Result Tree SyntaxRefusal) → IsTreeAnswer ts answer → IsOrNoMemory result answer → IsTreeAnswer ts result
+is_right : (ts : List Token) (answer result : Result Tree SyntaxRefusal) → IsTreeAnswer ts answer →
+    IsOrNoMemory result answer → IsTreeAnswer ts result
 is_right ts answer result full (inl e) = subst (IsTreeAnswer ts) (sym e) full
 is_right ts answer result full (inr e) = subst (IsTreeAnswer ts) (sym e) tt
 
 -- the code's result is the answer, unless memory was wanting
-module _ (tokens : List Lexed) (result : Result Tree SyntaxRefusal) (named : Named (tokens_of tokens)) (read : IsUnlessMemory (answer_of (length tokens) (tree_at 32 (tokens_of tokens))) result) where
+module _ (tokens : List Lexed) (result : Result Tree SyntaxRefusal) (named : Named (tokens_of tokens))
+    (read : IsUnlessMemory (answer_of (length tokens) (tree_at 32 (tokens_of tokens))) result) where
   found : IsOrNoMemory result (tree_answer (tokens_of tokens))
-  found = or_none (tree_answer (tokens_of tokens)) result (subst (λ n. IsUnlessMemory (answer_of n (tree_at 32 (tokens_of tokens))) result) (sym (count_of tokens)) read)
+  found = or_none (tree_answer (tokens_of tokens)) result
+      (subst (λ n. IsUnlessMemory (answer_of n (tree_at 32 (tokens_of tokens))) result) (sym (count_of tokens)) read)
 
   pub is_answer : IsTreeAnswer (tokens_of tokens) result
-  is_answer = is_right (tokens_of tokens) (tree_answer (tokens_of tokens)) result (is_full (tokens_of tokens) named).0 found
+  is_answer =
+      is_right (tokens_of tokens) (tree_answer (tokens_of tokens)) result (is_full (tokens_of tokens) named).0 found
 
   -- and there is no other
   pub forced : (other : Result Tree SyntaxRefusal) → IsFullAnswer (tokens_of tokens) other → IsOrNoMemory result other
-  forced other full = subst (IsOrNoMemory result) (one (tokens_of tokens) (tree_answer (tokens_of tokens)) other (is_full (tokens_of tokens) named) full) found
+  forced other full =
+      subst (IsOrNoMemory result)
+      (one (tokens_of tokens) (tree_answer (tokens_of tokens)) other (is_full (tokens_of tokens) named) full) found

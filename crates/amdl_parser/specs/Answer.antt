@@ -30,21 +30,24 @@ Begins spelled Kind tokens = (more : List Token) × Spells spelled Kind (tokens 
 
 -- k tokens begin a value that is shaped; with the next token they begin none that is built; and where they are all the
 -- tokens, no value is spelled so
-pub record IsSyntaxAt {X : Type 0} (spelled : X → List Token) (Built Shaped : X → Type 0) (tokens : List Token) (k : ℕ) : Type 0 where
+pub record IsSyntaxAt {X : Type 0} (spelled : X → List Token) (Built Shaped : X → Type 0) (tokens : List Token)
+    (k : ℕ) : Type 0 where
   pub within : k ≤ length tokens
   pub begun : Begins spelled Shaped (take k tokens)
   pub wrong : k < length tokens → Begins spelled Built (take (k + 1) tokens) → ⊥
   pub ended : k ≡ length tokens → Spells spelled Built tokens → ⊥
 
 -- k tokens begin a value that is shaped; with the next token they begin values that are built, but none that is shaped
-pub record IsDeepAt {X : Type 0} (spelled : X → List Token) (Built Shaped : X → Type 0) (tokens : List Token) (k : ℕ) : Type 0 where
+pub record IsDeepAt {X : Type 0} (spelled : X → List Token) (Built Shaped : X → Type 0) (tokens : List Token)
+    (k : ℕ) : Type 0 where
   pub within : k < length tokens
   pub begun : Begins spelled Shaped (take k tokens)
   pub deeper : Begins spelled Built (take (k + 1) tokens)
   pub only : Begins spelled Shaped (take (k + 1) tokens) → ⊥
 
 -- what the tokens are read as; want of memory is tied to no cause
-abbrev pub IsAnswer : {X : Type 0} → (X → List Token) → (X → Type 0) → (X → Type 0) → List Token → Result X SyntaxRefusal → Type 0
+abbrev pub IsAnswer : {X : Type 0} → (X → List Token) → (X → Type 0) → (X → Type 0) → List Token →
+    Result X SyntaxRefusal → Type 0
 IsAnswer spelled Built Shaped tokens (Ok x) = Shaped x × (spelled x ≡ tokens)
 IsAnswer spelled Built Shaped tokens (Err (Syntax k)) = IsSyntaxAt spelled Built Shaped tokens k
 IsAnswer spelled Built Shaped tokens (Err (Deep k)) = IsDeepAt spelled Built Shaped tokens k
@@ -67,8 +70,11 @@ IsFullAnswer tokens answer = IsTreeAnswer tokens answer × ¬ WantsMemory answer
 
 -- no token list has two answers
 abbrev pub OneAnswer : Type 0
-OneAnswer = (tokens : List Token) (one two : Result Tree SyntaxRefusal) → IsFullAnswer tokens one → IsFullAnswer tokens two → one ≡ two
+OneAnswer =
+    (tokens : List Token) (one two : Result Tree SyntaxRefusal) → IsFullAnswer tokens one → IsFullAnswer tokens two →
+    one ≡ two
 
 -- each token list has one; the words of a list are names
 abbrev pub SomeAnswer : Type 0
-SomeAnswer = (tokens : List Token) → All IsNamed tokens → (answer : Result Tree SyntaxRefusal) × IsFullAnswer tokens answer
+SomeAnswer =
+    (tokens : List Token) → All IsNamed tokens → (answer : Result Tree SyntaxRefusal) × IsFullAnswer tokens answer

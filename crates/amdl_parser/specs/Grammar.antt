@@ -21,8 +21,10 @@ use Rattle.amdl_tree.specs.declared.tree.Equal.{Equal}
 use Rattle.amdl_tree.specs.declared.tree.End.{End}
 use Rattle.amdl_tree.specs.declared.tree.End.TheVariants.{Host as AtHost, Port as AtPort}
 use Rattle.amdl_tree.specs.declared.tree.Item.{Item}
-use Rattle.amdl_tree.specs.declared.tree.Item.TheVariants.{Kind, Field, Class as OfClass, Host, Instance, Link, Sends, Forbid}
-use Rattle.amdl_parser.specs.Reading.{Answer, refused, too_deep, begins, word_at, fixed_at, then_at, made_at, after_at, before_at, listed_at, maybe_at, all_at}
+use Rattle.amdl_tree.specs.declared.tree.Item.TheVariants.{Kind, Field, Class as OfClass, Host, Instance, Link, Sends}
+use Rattle.amdl_tree.specs.declared.tree.Item.TheVariants.{Forbid}
+use Rattle.amdl_parser.specs.Reading.{Answer, refused, too_deep, begins, word_at, fixed_at, then_at, made_at, after_at}
+use Rattle.amdl_parser.specs.Reading.{before_at, listed_at, maybe_at, all_at}
 
 -- names with commas between
 unfoldable pub names_at : List Token → Answer (List (List ℕ))
@@ -32,7 +34,8 @@ abbrev pub atom_of : List ℕ × List (List ℕ) → Atom
 atom_of parts = record { relation = parts.0; args = parts.1 }
 
 unfoldable pub atom_at : List Token → Answer Atom
-atom_at = made_at atom_of (then_at word_at (after_at (Signed signs.OpenParen) (before_at names_at (Signed signs.CloseParen))))
+atom_at =
+    made_at atom_of (then_at word_at (after_at (Signed signs.OpenParen) (before_at names_at (Signed signs.CloseParen))))
 
 abbrev pub equal_of : List ℕ × List ℕ → Equal
 equal_of parts = record { field = parts.0; value = parts.1 }
@@ -83,7 +86,12 @@ abbrev pub relation_of : List ℕ × List (List ℕ) → Relation
 relation_of parts = record { name = parts.0; kinds = parts.1 }
 
 unfoldable pub relation_at : List Token → Answer Relation
-relation_at = made_at relation_of (after_at (Key words.Relation) (then_at word_at (after_at (Signed signs.OpenParen) (before_at (before_at names_at (Signed signs.CloseParen)) (Signed signs.Semicolon)))))
+relation_at =
+    made_at relation_of
+    (after_at (Key words.Relation)
+    (then_at word_at
+    (after_at (Signed signs.OpenParen)
+    (before_at (before_at names_at (Signed signs.CloseParen)) (Signed signs.Semicolon)))))
 
 -- the forms of items, each with what it is made of
 
@@ -106,23 +114,38 @@ abbrev pub forbid_of : List ℕ × List Equal → Item
 forbid_of parts = Forbid parts.0 parts.1
 
 unfoldable pub kind_at : List Token → Answer Item
-kind_at = made_at kind_of (after_at (Key words.Kind) (then_at word_at (after_at (Signed signs.Equals) (after_at (Signed signs.OpenBrace) (before_at (before_at names_at (Signed signs.CloseBrace)) (Signed signs.Semicolon))))))
+kind_at =
+    made_at kind_of
+    (after_at (Key words.Kind)
+    (then_at word_at
+    (after_at (Signed signs.Equals)
+    (after_at (Signed signs.OpenBrace)
+    (before_at (before_at names_at (Signed signs.CloseBrace)) (Signed signs.Semicolon))))))
 
 unfoldable pub field_at : List Token → Answer Item
-field_at = made_at field_of (after_at (Key words.Field) (then_at word_at (after_at (Signed signs.Colon) (before_at word_at (Signed signs.Semicolon)))))
+field_at =
+    made_at field_of
+    (after_at (Key words.Field)
+    (then_at word_at (after_at (Signed signs.Colon) (before_at word_at (Signed signs.Semicolon)))))
 
 unfoldable pub host_at : List Token → Answer Item
 host_at = made_at Host (after_at (Key words.Host) (before_at word_at (Signed signs.Semicolon)))
 
 unfoldable pub box_at : List Token → Answer Item
-box_at = made_at box_of (after_at (Key words.Box) (then_at word_at (after_at (Signed signs.Colon) (then_at word_at (before_at first_at (Signed signs.Semicolon))))))
+box_at = made_at box_of
+    (after_at (Key words.Box)
+    (then_at word_at (after_at (Signed signs.Colon) (then_at word_at (before_at first_at (Signed signs.Semicolon))))))
 
 unfoldable pub link_at : List Token → Answer Item
-link_at = made_at link_of (after_at (Key words.Link) (then_at end_at (after_at (Signed signs.Dashes) (before_at end_at (Signed signs.Semicolon)))))
+link_at =
+    made_at link_of
+    (after_at (Key words.Link)
+    (then_at end_at (after_at (Signed signs.Dashes) (before_at end_at (Signed signs.Semicolon)))))
 
 -- a host with a pattern, behind the word of the item
 unfoldable pub claim_at : Token → List Token → Answer (List ℕ × List Equal)
-claim_at word = after_at word (then_at word_at (after_at (Signed signs.Colon) (before_at pattern_at (Signed signs.Semicolon))))
+claim_at word =
+    after_at word (then_at word_at (after_at (Signed signs.Colon) (before_at pattern_at (Signed signs.Semicolon))))
 
 abbrev pub sends_at : List Token → Answer Item
 sends_at = made_at sends_of (claim_at (Key words.Sends))
@@ -157,7 +180,8 @@ differs_from name = (false, name)
 unfoldable pub comparison_at : List Token → Answer Comparison
 comparison_at tokens =
     if begins (Signed signs.Equals) tokens then made_at same_as (after_at (Signed signs.Equals) word_at) tokens
-    else (if begins (Signed signs.Differs) tokens then made_at differs_from (after_at (Signed signs.Differs) word_at) tokens
+    else (if begins (Signed signs.Differs) tokens then made_at differs_from
+    (after_at (Signed signs.Differs) word_at) tokens
     else refused tokens)
 
 abbrev pub compared_of : List ℕ × Comparison → Lit
@@ -186,7 +210,9 @@ lit_by denied grouped tokens =
 -- a literal at n more levels
 unfoldable pub lit_at : ℕ → List Token → Answer Lit
 lit_at zero = lit_by too_deep too_deep
-lit_at (suc n) = lit_by (made_at not_of (after_at (Key words.Not) (lit_at n))) (made_at group_of (after_at (Signed signs.OpenParen) (before_at (guard_by (lit_at n)) (Signed signs.CloseParen))))
+lit_at (suc n) =
+    lit_by (made_at not_of (after_at (Key words.Not) (lit_at n)))
+    (made_at group_of (after_at (Signed signs.OpenParen) (before_at (guard_by (lit_at n)) (Signed signs.CloseParen))))
 
 unfoldable pub conj_at : ℕ → List Token → Answer (List Lit)
 conj_at n = conj_by (lit_at n)
@@ -244,7 +270,8 @@ alternative_of parts = record { guard = parts.0; body = parts.1 }
 
 -- changes in brackets, or nothing
 unfoldable pub changes_at : List Token → Answer (List Equal)
-changes_at = made_at list_of (maybe_at (Signed signs.OpenBracket) (before_at some_changes_at (Signed signs.CloseBracket)))
+changes_at =
+    made_at list_of (maybe_at (Signed signs.OpenBracket) (before_at some_changes_at (Signed signs.CloseBracket)))
 
 -- a change of a relation, behind this word
 unfoldable pub update_at : Reserved → List Token → Answer Atom
@@ -254,20 +281,26 @@ unfoldable pub abort_at : List Token → Answer Stmt
 abort_at = made_at abort_of (after_at (Key words.Abort) (fixed_at (Signed signs.Semicolon)))
 
 unfoldable pub output_at : List Token → Answer Stmt
-output_at = made_at output_of (after_at (Key words.Output) (then_at word_at (before_at changes_at (Signed signs.Semicolon))))
+output_at =
+    made_at output_of (after_at (Key words.Output) (then_at word_at (before_at changes_at (Signed signs.Semicolon))))
 
 -- { statements }
 abbrev pub block_by : (List Token → Answer Stmt) → List Token → Answer (List Stmt)
-block_by stated = after_at (Signed signs.OpenBrace) (before_at (all_at starts_statement stated) (Signed signs.CloseBrace))
+block_by stated =
+    after_at (Signed signs.OpenBrace) (before_at (all_at starts_statement stated) (Signed signs.CloseBrace))
 
 abbrev pub branch_by : (List Token → Answer Guard) → (List Token → Answer Stmt) → List Token → Answer Alternative
 branch_by guarded stated = made_at alternative_of (then_at guarded (after_at (Signed signs.Arrow) (block_by stated)))
 
 abbrev pub choose_by : (List Token → Answer Alternative) → List Token → Answer Stmt
-choose_by branched = made_at choose_of (after_at (Key words.If) (before_at (listed_at (Signed signs.Bar) branched) (Key words.Fi)))
+choose_by branched =
+    made_at choose_of (after_at (Key words.If) (before_at (listed_at (Signed signs.Bar) branched) (Key words.Fi)))
 
 abbrev pub pick_by : (List Token → Answer Stmt) → List Token → Answer Stmt
-pick_by stated = made_at pick_of (after_at (Key words.Pick) (then_at word_at (after_at (Signed signs.Colon) (then_at word_at (after_at (Key words.In) (block_by stated))))))
+pick_by stated =
+    made_at pick_of
+    (after_at (Key words.Pick)
+    (then_at word_at (after_at (Signed signs.Colon) (then_at word_at (after_at (Key words.In) (block_by stated))))))
 
 -- a statement, given how an `if` and a `pick` are read
 abbrev pub stmt_by : (List Token → Answer Stmt) → (List Token → Answer Stmt) → List Token → Answer Stmt
@@ -302,7 +335,10 @@ unfoldable pub chosen_at : ℕ → List Token → Answer Stmt
 chosen_at n = made_at choose_of (after_at (Key words.If) (before_at (branches_at n) (Key words.Fi)))
 
 unfoldable pub picked_at : ℕ → List Token → Answer Stmt
-picked_at n = made_at pick_of (after_at (Key words.Pick) (then_at word_at (after_at (Signed signs.Colon) (then_at word_at (after_at (Key words.In) (block_at n))))))
+picked_at n =
+    made_at pick_of
+    (after_at (Key words.Pick)
+    (then_at word_at (after_at (Signed signs.Colon) (then_at word_at (after_at (Key words.In) (block_at n))))))
 
 -- an `if` and a `pick`, each with n more levels
 unfoldable pub choose_at : ℕ → List Token → Answer Stmt
@@ -319,7 +355,8 @@ abbrev pub handler_of : List ℕ × List Stmt → Handler
 handler_of parts = record { port = parts.0; body = parts.1 }
 
 unfoldable pub handler_at : ℕ → List Token → Answer Handler
-handler_at n = made_at handler_of (after_at (Key words.On) (then_at word_at (after_at (Signed signs.Colon) (block_at n))))
+handler_at n =
+    made_at handler_of (after_at (Key words.On) (then_at word_at (after_at (Signed signs.Colon) (block_at n))))
 
 unfoldable pub relations_at : List Token → Answer (List Relation)
 relations_at = all_at starts_relation relation_at
@@ -338,7 +375,12 @@ unfoldable pub body_at : ℕ → List Token → Answer (List Relation × List Ha
 body_at n = then_at relations_at (before_at (handlers_at n) (Signed signs.CloseBrace))
 
 unfoldable pub class_at : ℕ → List Token → Answer Class
-class_at n = made_at class_of (after_at (Key words.Middlebox) (then_at word_at (after_at (Signed signs.OpenBrace) (after_at (Key words.Port) (then_at names_at (after_at (Signed signs.Semicolon) (body_at n)))))))
+class_at n =
+    made_at class_of
+    (after_at (Key words.Middlebox)
+    (then_at word_at
+    (after_at (Signed signs.OpenBrace)
+    (after_at (Key words.Port) (then_at names_at (after_at (Signed signs.Semicolon) (body_at n)))))))
 
 -- items and trees, with statements of n levels
 
@@ -361,4 +403,5 @@ abbrev pub tree_of : List ℕ × List Item → Tree
 tree_of parts = record { name = parts.0; items = parts.1 }
 
 unfoldable pub tree_at : ℕ → List Token → Answer Tree
-tree_at n = made_at tree_of (after_at (Key words.Network) (then_at word_at (after_at (Signed signs.Semicolon) (items_at n))))
+tree_at n =
+    made_at tree_of (after_at (Key words.Network) (then_at word_at (after_at (Signed signs.Semicolon) (items_at n))))

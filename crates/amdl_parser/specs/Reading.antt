@@ -1,5 +1,6 @@
 -- Reading a value from the front of a token list, and how readings are put together.
-use Rattle.std.specs.Prelude.{◌≡◌, ◌-◌, ℕ, zero, suc, Bool, false, List, [], ◌∷◌, length, Option, Some, None, Result, Ok, Err, ⊤, if◌then◌else◌}
+use Rattle.std.specs.Prelude.{◌≡◌, ◌-◌, ℕ, zero, suc, Bool, false, List, [], ◌∷◌, length, Option, Some, None, Result}
+use Rattle.std.specs.Prelude.{Ok, Err, ⊤, if◌then◌else◌}
 use denote.Enum.Bare.{sameb}
 use Rattle.amdl_tree.specs.contracts.token.Sign.{the_type as the_signs}
 use Rattle.amdl_tree.specs.contracts.reserved.Reserved.{the_type as the_words}
@@ -110,7 +111,9 @@ joined pair = pair.0 ∷ pair.1
 -- parts that each stand behind this token, at most so many
 unfoldable pub others_at : {A : Type 0} → Token → (List Token → Answer A) → ℕ → List Token → Answer (List A)
 others_at token part zero tokens = Ok ([], tokens)
-others_at token part (suc n) tokens = if begins token tokens then made_at joined (then_at (after_at token part) (others_at token part n)) tokens else Ok ([], tokens)
+others_at token part (suc n) tokens =
+    if begins token tokens then made_at joined (then_at (after_at token part) (others_at token part n)) tokens else Ok
+    ([], tokens)
 
 abbrev pub all_others_at : {A : Type 0} → Token → (List Token → Answer A) → List Token → Answer (List A)
 all_others_at token part tokens = others_at token part (length tokens) tokens
@@ -121,12 +124,14 @@ listed_at token part = made_at joined (then_at part (all_others_at token part))
 
 -- a part behind this token, or nothing where another token comes next
 unfoldable pub maybe_at : {A : Type 0} → Token → (List Token → Answer A) → List Token → Answer (Option A)
-maybe_at token part tokens = if begins token tokens then made_at Some (after_at token part) tokens else Ok (None, tokens)
+maybe_at token part tokens =
+    if begins token tokens then made_at Some (after_at token part) tokens else Ok (None, tokens)
 
 -- parts while the next token is of a kind, at most so many
 unfoldable pub many_at : {A : Type 0} → (Token → Bool) → (List Token → Answer A) → ℕ → List Token → Answer (List A)
 many_at starts part zero tokens = Ok ([], tokens)
-many_at starts part (suc n) tokens = if heads starts tokens then made_at joined (then_at part (many_at starts part n)) tokens else Ok ([], tokens)
+many_at starts part (suc n) tokens =
+    if heads starts tokens then made_at joined (then_at part (many_at starts part n)) tokens else Ok ([], tokens)
 
 abbrev pub all_at : {A : Type 0} → (Token → Bool) → (List Token → Answer A) → List Token → Answer (List A)
 all_at starts part tokens = many_at starts part (length tokens) tokens

@@ -1,7 +1,8 @@
 //! Readings of literals and guards, at so many more levels.
 ghost use Rattle.std.specs.Prelude.{◌≡◌, ◌<◌, length, OnOk};
 ghost use Rattle.amdl_parser.specs.Reading.{Reads};
-ghost use Rattle.amdl_parser.specs.Grammar.{has_at, compared_at, lit_at, not_at, denied_at, group_at, grouped_at, conj_at, any_at, guard_at};
+ghost use Rattle.amdl_parser.specs.Grammar.{has_at, compared_at, lit_at, not_at, denied_at, group_at, grouped_at};
+ghost use Rattle.amdl_parser.specs.Grammar.{conj_at, any_at, guard_at};
 
 use crate::fault::Fault;
 use crate::primitive::Tokens;

@@ -2,7 +2,8 @@
 ghost use Rattle.std.specs.Prelude.{◌≡◌, ◌<◌, ◌≤◌, length, OnOk};
 ghost use Rattle.amdl_tree.specs.GoesOn.{starts_relation, starts_handler, starts_item};
 ghost use Rattle.amdl_parser.specs.Reading.{Reads, tokens_of, heads};
-ghost use Rattle.amdl_parser.specs.Grammar.{relations_at, handler_at, handlers_at, body_at, class_at, item_at, items_at, tree_at};
+ghost use Rattle.amdl_parser.specs.Grammar.{relations_at, handler_at, handlers_at, body_at, class_at, item_at};
+ghost use Rattle.amdl_parser.specs.Grammar.{items_at, tree_at};
 
 use crate::fault::Fault;
 use crate::primitive::Tokens;

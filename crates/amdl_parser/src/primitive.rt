@@ -1,7 +1,8 @@
 //! The tokens that are not yet read, the three readings that look at one, and the tests of the next one.
 ghost use Rattle.std.specs.Prelude.{All, ◌≡◌, ◌≤◌, ◌<◌, length, MatchResult, OnOk, Ok};
 ghost use Rattle.amdl_tree.specs.declared.token.Token.{Token};
-ghost use Rattle.amdl_parser.specs.Reading.{IsNamed, Reads, tokens_of, same_sign, same_key, heads, begins, word_at, fixed_at};
+ghost use Rattle.amdl_parser.specs.Reading.{IsNamed, Reads, tokens_of, same_sign, same_key, heads, begins, word_at};
+ghost use Rattle.amdl_parser.specs.Reading.{fixed_at};
 
 use crate::fault::Fault;
 use amdl_tree::{Lexed, Name, Reserved, Sign, Token};

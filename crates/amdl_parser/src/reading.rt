@@ -32,8 +32,10 @@ pub fn parse(alloc: Global, tokens: &[Lexed]) -> Result<Tree, SyntaxRefusal>
 
     // Each answer also comes wherever the tokens have its cause, unless memory runs out.
     ensures read { (tree : Tree) → IsShaped tree → spell tree ≡ tokens_of tokens.now → IsOrNoMemory result (Ok tree) }
-    ensures syntax { (k : ℕ) → IsSyntaxAt spell IsWellBuilt IsShaped (tokens_of tokens.now) k → IsOrNoMemory result (Err (SyntaxRefusal.Syntax k)) }
-    ensures deep { (k : ℕ) → IsDeepAt spell IsWellBuilt IsShaped (tokens_of tokens.now) k → IsOrNoMemory result (Err (SyntaxRefusal.Deep k)) }
+    ensures syntax { (k : ℕ) → IsSyntaxAt spell IsWellBuilt IsShaped (tokens_of tokens.now) k →
+        IsOrNoMemory result (Err (SyntaxRefusal.Syntax k)) }
+    ensures deep { (k : ℕ) → IsDeepAt spell IsWellBuilt IsShaped (tokens_of tokens.now) k →
+        IsOrNoMemory result (Err (SyntaxRefusal.Deep k)) }
 {
     show_names(tokens);
     read_whole(alloc, tokens)

@@ -2,7 +2,8 @@
 ghost use Rattle.std.specs.Prelude.{◌≡◌, ◌<◌, ◌≤◌, length, OnOk};
 ghost use Rattle.amdl_tree.specs.GoesOn.{starts_statement};
 ghost use Rattle.amdl_parser.specs.Reading.{Reads, tokens_of, heads};
-ghost use Rattle.amdl_parser.specs.Grammar.{update_at, changes_at, output_at, abort_at, stmt_at, choose_at, chosen_at, pick_at, picked_at, block_at, statements_at, branch_at, branches_at};
+ghost use Rattle.amdl_parser.specs.Grammar.{update_at, changes_at, output_at, abort_at, stmt_at, choose_at, chosen_at};
+ghost use Rattle.amdl_parser.specs.Grammar.{pick_at, picked_at, block_at, statements_at, branch_at, branches_at};
 
 use crate::fault::Fault;
 use crate::primitive::Tokens;

@@ -35,7 +35,8 @@ decreases-picked l = 8 * l.levels + 7
 
 abbrev pub invariant-branches-loop-alloc : goal.invariant-branches-loop-alloc
 invariant-branches-loop-alloc l = record {
-  listing : Listing (branches_at l.fn.levels) (Signed Bar) (branch_at l.fn.levels) l.fn.self.left.now l.self.left.now l.branches;
+  listing : Listing (branches_at l.fn.levels) (Signed Bar)
+      (branch_at l.fn.levels) l.fn.self.left.now l.self.left.now l.branches;
   shorter : length l.self.left.now < length l.fn.self.left.now;
 }
 
@@ -44,7 +45,8 @@ decreases-branches-loop-alloc l = length l.self.left.now
 
 abbrev pub invariant-statements-loop-alloc : goal.invariant-statements-loop-alloc
 invariant-statements-loop-alloc l = record {
-  gathering : Gathering (statements_at l.fn.levels) starts_statement (stmt_at l.fn.levels) l.fn.self.left.now l.self.left.now l.statements;
+  gathering : Gathering (statements_at l.fn.levels) starts_statement
+      (stmt_at l.fn.levels) l.fn.self.left.now l.self.left.now l.statements;
   shorter : length l.self.left.now ≤ length l.fn.self.left.now;
 }
 

@@ -9,12 +9,17 @@ use Rattle.amdl_parser.proofs.primitive.Tokens.atoms.Goals as goal
 pub returns-in_err-sign-clause-read : goal.returns-in_err-sign-clause-read
 returns-in_err-sign-clause-read c =
     let p = err_from_is_err_and c.from_residual-in_err-sign.result c.from_residual-in_err-sign.ensures.1 in
-    listing_wronged (Signed Comma) atom_at atoms_at _ _ _ _ _ _ c.loop-alloc.invariant.listing (sym c.next_is_sign.ensures ∙ c.loop-alloc-test.true) c.in_err-sign.ensures.read (error_of _ _ p)
+    listing_wronged (Signed Comma) atom_at atoms_at _ _ _ _ _ _ c.loop-alloc.invariant.listing
+    (sym c.next_is_sign.ensures ∙ c.loop-alloc-test.true) c.in_err-sign.ensures.read (error_of _ _ p)
 
 pub returns-in_err-atom-2-clause-read : goal.returns-in_err-atom-2-clause-read
 returns-in_err-atom-2-clause-read c =
     let p = err_from_is_err_and c.from_residual-in_err-atom-2.result c.from_residual-in_err-atom-2.ensures.1 in
-    listing_faulted (Signed Comma) atom_at atoms_at _ _ _ _ _ _ _ c.loop-alloc.invariant.listing (sym c.next_is_sign.ensures ∙ c.loop-alloc-test.true) c.in_ok-sign.ensures.read c.in_err-atom-2.ensures.read (error_of _ _ p)
+    listing_faulted (Signed Comma) atom_at atoms_at _ _ _ _ _ _ _ c.loop-alloc.invariant.listing
+    (sym c.next_is_sign.ensures ∙ c.loop-alloc-test.true) c.in_ok-sign.ensures.read c.in_err-atom-2.ensures.read
+    (error_of _ _ p)
 
 pub returns-clause-read : goal.returns-clause-read
-returns-clause-read c = listing_end (Signed Comma) atom_at atoms_at _ _ _ c.loop-alloc.invariant.listing (sym c.next_is_sign.ensures ∙ c.loop-alloc-test.false)
+returns-clause-read c =
+    listing_end (Signed Comma) atom_at atoms_at _ _ _ c.loop-alloc.invariant.listing
+    (sym c.next_is_sign.ensures ∙ c.loop-alloc-test.false)

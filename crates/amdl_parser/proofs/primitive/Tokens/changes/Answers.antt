@@ -9,12 +9,17 @@ use Rattle.amdl_parser.proofs.primitive.Tokens.changes.Goals as goal
 pub returns-in_err-sign-clause-read : goal.returns-in_err-sign-clause-read
 returns-in_err-sign-clause-read c =
     let p = err_from_is_err_and c.from_residual-in_err-sign.result c.from_residual-in_err-sign.ensures.1 in
-    listing_wronged (Signed Comma) change_at some_changes_at _ _ _ _ _ _ c.loop-self.invariant.listing (sym c.next_is_sign.ensures ∙ c.loop-self-test.true) c.in_err-sign.ensures.read (error_of _ _ p)
+    listing_wronged (Signed Comma) change_at some_changes_at _ _ _ _ _ _ c.loop-self.invariant.listing
+    (sym c.next_is_sign.ensures ∙ c.loop-self-test.true) c.in_err-sign.ensures.read (error_of _ _ p)
 
 pub returns-in_err-change-2-clause-read : goal.returns-in_err-change-2-clause-read
 returns-in_err-change-2-clause-read c =
     let p = err_from_is_err_and c.from_residual-in_err-change-2.result c.from_residual-in_err-change-2.ensures.1 in
-    listing_faulted (Signed Comma) change_at some_changes_at _ _ _ _ _ _ _ c.loop-self.invariant.listing (sym c.next_is_sign.ensures ∙ c.loop-self-test.true) c.in_ok-sign.ensures.read c.in_err-change-2.ensures.read (error_of _ _ p)
+    listing_faulted (Signed Comma) change_at some_changes_at _ _ _ _ _ _ _ c.loop-self.invariant.listing
+    (sym c.next_is_sign.ensures ∙ c.loop-self-test.true) c.in_ok-sign.ensures.read c.in_err-change-2.ensures.read
+    (error_of _ _ p)
 
 pub returns-clause-read : goal.returns-clause-read
-returns-clause-read c = listing_end (Signed Comma) change_at some_changes_at _ _ _ c.loop-self.invariant.listing (sym c.next_is_sign.ensures ∙ c.loop-self-test.false)
+returns-clause-read c =
+    listing_end (Signed Comma) change_at some_changes_at _ _ _ c.loop-self.invariant.listing
+    (sym c.next_is_sign.ensures ∙ c.loop-self-test.false)

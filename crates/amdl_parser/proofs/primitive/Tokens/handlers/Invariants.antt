@@ -6,7 +6,8 @@ use Rattle.amdl_parser.proofs.primitive.Tokens.handlers.Given as goal
 
 abbrev pub invariant-loop-alloc : goal.invariant-loop-alloc
 invariant-loop-alloc l = record {
-  gathering : Gathering (handlers_at l.fn.levels) starts_handler (handler_at l.fn.levels) l.fn.self.left.now l.self.left.now l.handlers;
+  gathering : Gathering (handlers_at l.fn.levels) starts_handler
+      (handler_at l.fn.levels) l.fn.self.left.now l.self.left.now l.handlers;
   shorter : length l.self.left.now ≤ length l.fn.self.left.now;
 }
 

@@ -8,7 +8,11 @@ use Rattle.amdl_parser.proofs.primitive.Tokens.items.Goals as goal
 pub returns-in_err-item-clause-read : goal.returns-in_err-item-clause-read
 returns-in_err-item-clause-read c =
     let p = err_from_is_err_and c.from_residual.result c.from_residual.ensures.1 in
-    gather_faulted starts_item (item_at c.args.levels) (items_at c.args.levels) _ _ _ _ _ _ c.loop-alloc.invariant.gathering (sym c.begin_with_an_item.ensures ∙ c.loop-alloc-test.true) c.in_err-item.ensures.read (error_of _ _ p)
+    gather_faulted starts_item (item_at c.args.levels)
+    (items_at c.args.levels) _ _ _ _ _ _ c.loop-alloc.invariant.gathering
+    (sym c.begin_with_an_item.ensures ∙ c.loop-alloc-test.true) c.in_err-item.ensures.read (error_of _ _ p)
 
 pub returns-clause-read : goal.returns-clause-read
-returns-clause-read c = gather_end starts_item (item_at c.args.levels) (items_at c.args.levels) _ _ _ c.loop-alloc.invariant.gathering (sym c.begin_with_an_item.ensures ∙ c.loop-alloc-test.false)
+returns-clause-read c =
+    gather_end starts_item (item_at c.args.levels) (items_at c.args.levels) _ _ _ c.loop-alloc.invariant.gathering
+    (sym c.begin_with_an_item.ensures ∙ c.loop-alloc-test.false)

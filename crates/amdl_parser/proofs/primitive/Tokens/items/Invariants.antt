@@ -6,7 +6,8 @@ use Rattle.amdl_parser.proofs.primitive.Tokens.items.Given as goal
 
 abbrev pub invariant-loop-alloc : goal.invariant-loop-alloc
 invariant-loop-alloc l = record {
-  gathering : Gathering (items_at l.fn.levels) starts_item (item_at l.fn.levels) l.fn.self.left.now l.self.left.now l.items;
+  gathering : Gathering (items_at l.fn.levels) starts_item
+      (item_at l.fn.levels) l.fn.self.left.now l.self.left.now l.items;
   shorter : length l.self.left.now ≤ length l.fn.self.left.now;
 }
 
