@@ -51,7 +51,8 @@ pub record LacksFile (told : Option FileMap) (name : List ℕ) (before now : ℕ
   pub absent : (files : FileMap) → told ≡ Some files → file_of files name ≡ None
   pub untold : told ≡ None → Rose before now
 
--- a load whose file is too long: it is longer than `limit`; where no map is told, the buffer grew by exactly `limit` bytes
+-- a load whose file is too long: it is longer than `limit`; where no map is told, the buffer grew by exactly `limit`
+-- bytes
 pub record IsOverLimit (told : Option FileMap) (name : List ℕ) (limit : ℕ) (before after : List ℕ) : Type 0 where
   pub longer : (files : FileMap) → told ≡ Some files → IsLonger (file_of files name) limit
   pub untold : told ≡ None → length after ≡ length before + limit

@@ -1,4 +1,5 @@
--- What a load and a store do with what the system opened for them, where the bytes that a reader has left, or that a writer
+-- What a load and a store do with what the system opened for them, where the bytes that a reader has left, or that a
+-- writer
 -- holds, are known.
 use Rattle.std.specs.Prelude.{◌≡◌, ℕ, List, Option, Result, Ok, Err}
 use Rattle.std.specs.Io.KnownBytes.{Appends}
@@ -11,8 +12,10 @@ LoadsAll remaining (Ok reader) limit before after = ReadsAll (remaining reader) 
 LoadsAll remaining (Err error) limit before after = ⊥
 
 -- a reader was opened, the buffer grew by exactly `limit` bytes, and the reader gave one byte more
-abbrev pub LoadsOver : {R : Type 0} → (R → Option (List ℕ)) → Result R Error → Result R Error → ℕ → List ℕ → List ℕ → Type 0
-LoadsOver remaining (Ok reader) (Ok later) limit before after = ReadsOver (remaining reader) (remaining later) limit before after
+abbrev pub LoadsOver : {R : Type 0} → (R → Option (List ℕ)) → Result R Error → Result R Error → ℕ → List ℕ → List ℕ →
+    Type 0
+LoadsOver remaining (Ok reader) (Ok later) limit before after =
+    ReadsOver (remaining reader) (remaining later) limit before after
 LoadsOver remaining _ _ limit before after = ⊥
 
 -- a front of what the opened reader had left was appended, and nothing where none was opened

@@ -1,5 +1,5 @@
-// The system's files and standard output behind the two traits. They tell nothing of content, so each call is the opening and
-// one call of what does all the rest over any reader and writer.
+// The system's files and standard output behind the two traits. They tell nothing of content, so each call is the
+// opening and one call of what does all the rest over any reader and writer.
 ghost use Rattle.std.specs.Prelude.{◌≡◌, ◌≢◌, ◌↔◌, ◌+◌, ◌≤◌, ℕ, length, None, OnOk, OnErr, IsErrOf};
 ghost use Rattle.std.specs.IoError.{error_kind};
 ghost use Rattle.outside.specs.Host.{faults_after_load, faults_after_store, faults_after_write};

@@ -1,5 +1,6 @@
 // Files that are kept in memory, seen as the map of their bytes.
-ghost use Rattle.std.specs.Prelude.{◌≡◌, ◌≢◌, ◌++◌, ◌<◌, length, slice_index_or, take, IfNone, IfSome, OnOk, OnErr, IsErrOf, Some, None, Err};
+ghost use Rattle.std.specs.Prelude.{◌≡◌, ◌≢◌, ◌++◌, ◌<◌, length, slice_index_or, take, IfNone, IfSome, OnOk, OnErr};
+ghost use Rattle.std.specs.Prelude.{IsErrOf, Some, None, Err};
 ghost use Rattle.std.specs.Option.{option_copied};
 ghost use Rattle.std.specs.FinMap as map;
 ghost use Rattle.outside.specs.Files.{file_of, bytes_of, with_file, HasLoaded, IsLonger};

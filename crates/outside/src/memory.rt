@@ -3,7 +3,8 @@ ghost use Rattle.std.specs.Prelude.{◌≡◌, ◌≢◌, ◌≤◌, ◌++◌, [
 ghost use Rattle.std.specs.Option.{option_copied};
 ghost use Rattle.std.specs.FinMap as map;
 ghost use Rattle.outside.specs.Failing.{no_failing, next_kept, after_call, after_failure, after_naming};
-ghost use Rattle.outside.specs.Files.{file_of, bytes_of, with_file, HasLoaded, LacksFile, IsOverLimit, HasPartly, StoresFront};
+ghost use Rattle.outside.specs.Files.{file_of, bytes_of, with_file, HasLoaded, LacksFile, IsOverLimit, HasPartly};
+ghost use Rattle.outside.specs.Files.{StoresFront};
 ghost use Rattle.outside.specs.Memory.{IsErrOfEither};
 ghost use Rattle.outside.specs.Sink.{AppendsFront};
 

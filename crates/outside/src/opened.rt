@@ -1,5 +1,5 @@
-// What a load, a store and a put over the system do, all but the opening: over any reader and any writer, so that clauses can
-// name the bytes that come from the one and go to the other.
+// What a load, a store and a put over the system do, all but the opening: over any reader and any writer, so that
+// clauses can name the bytes that come from the one and go to the other.
 ghost use Rattle.std.specs.Prelude.{◌≡◌, ◌≢◌, ◌↔◌, ◌≤◌, Err, OnOk, OnErr, IsErrOf, IsErrAnd};
 ghost use Rattle.std.specs.IoError.{error_kind};
 ghost use Rattle.outside.specs.Host.{faults_after_load, faults_after_store, faults_after_write};
@@ -13,8 +13,8 @@ use std::io::{self, Error, ErrorKind, Read, Write};
 
 // Appends what an opened reader has left, and counts a fault of the system.
 //
-// Where the system opened nothing, a file that it doesn't have is missing, and every other cause but want of memory failed.
-// A read that fails is an error, whatever was appended before it.
+// Where the system opened nothing, a file that it doesn't have is missing, and every other cause but want of memory
+// failed. A read that fails is an error, whatever was appended before it.
 pub(crate) fn load_opened<R: Read>(
     opened: &mut io::Result<R>,
     limit: usize,

@@ -2,7 +2,8 @@
 ghost use Rattle.std.specs.Prelude.{◌≡◌, ◌≤◌, ℕ, List, Option, OnOk, OnErr, IsErrOf, is_some};
 ghost use Rattle.std.specs.Io.KnownBytes.{append_known};
 ghost use Rattle.outside.specs.Faults.{Rose};
-ghost use Rattle.outside.specs.Files.{FileMap, HasLoaded, LacksFile, IsOverLimit, HasPartly, with_known_file, StoresFront};
+ghost use Rattle.outside.specs.Files.{FileMap, HasLoaded, LacksFile, IsOverLimit, HasPartly, with_known_file};
+ghost use Rattle.outside.specs.Files.{StoresFront};
 ghost use Rattle.outside.specs.Sink.{AppendsFront};
 ghost use Rattle.outside.specs.Writing.{store_fault_of};
 ghost use Rattle.outside.specs.declared.traits.LoadFault.TheVariants as load_fault;

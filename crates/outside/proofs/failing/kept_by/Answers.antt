@@ -8,4 +8,6 @@ returns-then-from-call c =
 
 pub loop-naming-preserved : goal.loop-naming-preserved
 loop-naming-preserved c =
-    c.loop-naming.invariant ∙ first_naming-next _ c.loop-naming.naming-index (record { call = 0; kept = 0 }) _ c.loop-naming-test.true (λ e. c.if-from-call.false (cc))
+    c.loop-naming.invariant
+    ∙ first_naming-next _ c.loop-naming.naming-index (record { call = 0; kept = 0 }) _ c.loop-naming-test.true
+    (λ e. c.if-from-call.false (cc))

@@ -6,6 +6,7 @@ pub loop-rest-preserved : goal.loop-rest-preserved
 loop-rest-preserved g c =
     let now = c.loop-rest.invariant in (
       now.0 ++ take c.in_ok-count.count c.loop-rest.rest.now,
-      front-append _ now.0 c.loop-rest.rest.now _ _ c.in_ok-count.count now.1 c.split_at.ensures.front c.split_at.ensures.back,
+      front-append _ now.0 c.loop-rest.rest.now _ _ c.in_ok-count.count now.1 c.split_at.ensures.front
+          c.split_at.ensures.back,
       Appends-append _ (g.W.Write.contents c.loop-rest.writer) _ _ _ now.2 c.in_ok-count.ensures.took,
     )

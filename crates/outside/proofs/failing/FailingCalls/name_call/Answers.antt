@@ -11,11 +11,16 @@ returns-in_ok-push-clause-ok c =
     let none : first_naming was.named.items c.args.call ≡ None =
     none_from_not_some _ (rw (← c.deref.ensures.value, ← c.from.ensures, ← c.kept_by.ensures) c.if-is_none.ensures) in
     rw (← c.self.view_is)
-    (ap with_calls (ap named_calls c.in_ok-push.ensures.items ∙ named_calls-push was.named.items _ none ∙ sym (naming-new (named_calls was.named.items) c.args.call c.args.kept (get-named_calls _ _ ∙ none))))
+    (ap with_calls
+    (ap named_calls c.in_ok-push.ensures.items ∙ named_calls-push was.named.items _ none
+    ∙ sym (naming-new (named_calls was.named.items) c.args.call c.args.kept (get-named_calls _ _ ∙ none))))
 
 pub returns-else-is_none-clause-ok : goal.returns-else-is_none-clause-ok
 returns-else-is_none-clause-ok c =
     let was = c.self.inside in
     let with_calls : NamedCalls → Failing = λ m. record { named = m; calls = was.calls; faults = was.faults } in
     rw (← c.self.view_is)
-    (ap with_calls (sym (naming-again (named_calls was.named.items) c.args.call c.args.kept (rw (get-named_calls, ← c.deref.ensures.value, ← c.from.ensures, ← c.kept_by.ensures) c.if-is_none.ensures))))
+    (ap with_calls
+    (sym
+    (naming-again (named_calls was.named.items) c.args.call c.args.kept
+    (rw (get-named_calls, ← c.deref.ensures.value, ← c.from.ensures, ← c.kept_by.ensures) c.if-is_none.ensures))))
