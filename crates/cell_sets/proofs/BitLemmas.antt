@@ -7,7 +7,8 @@ use Rattle.std.proofs.lemmas.Nat.Bits.{bit_at-zero, bit_at-trailing_zeros, bit_a
 use Rattle.cell_sets.specs.Words.{HasNoBit}
 
 bit_at-shifted : (word low place : ℕ) → bit_at (word / 2 ^ low) place ≡ bit_at word (low + place)
-bit_at-shifted word low place = ap (λ n. n % 2) (div-div-eq-div-mul word (2 ^ low) (2 ^ place) ∙ ap (λ n. word / n) (sym (pow-add 2 low place)))
+bit_at-shifted word low place =
+    ap (λ n. n % 2) (div-div-eq-div-mul word (2 ^ low) (2 ^ place) ∙ ap (λ n. word / n) (sym (pow-add 2 low place)))
 
 bit_from : (word low place : ℕ) → low ≤ place → bit_at word place ≡ bit_at (word / 2 ^ low) (place - low)
 bit_from word low place within =
@@ -15,10 +16,12 @@ bit_from word low place within =
     sym (bit_at-shifted word low (place - low) ∙ ap (bit_at word) e)
 
 pub no_bit_left : (word low to : ℕ) → word / 2 ^ low ≡ 0 → HasNoBit word low to
-no_bit_left word low to none place from below = bit_from word low place from ∙ ap (λ n. bit_at n (place - low)) none ∙ bit_at-zero (place - low)
+no_bit_left word low to none place from below =
+    bit_from word low place from ∙ ap (λ n. bit_at n (place - low)) none ∙ bit_at-zero (place - low)
 
 pub first_bit_left : (word low : ℕ) → word < 2 ^ 64 → (word / 2 ^ low ≡ 0 → ⊥)
-    → (low ≤ low + trailing_zeros w64 (word / 2 ^ low)) × (low + trailing_zeros w64 (word / 2 ^ low) < 64) × (bit_at word (low + trailing_zeros w64 (word / 2 ^ low)) ≡ 1)
+    → (low ≤ low + trailing_zeros w64 (word / 2 ^ low)) × (low + trailing_zeros w64 (word / 2 ^ low) < 64)
+    × (bit_at word (low + trailing_zeros w64 (word / 2 ^ low)) ≡ 1)
     × HasNoBit word low (low + trailing_zeros w64 (word / 2 ^ low))
 first_bit_left word low small some =
     let rest : ℕ = word / 2 ^ low in

@@ -1,5 +1,6 @@
 // What a set of cells does.
-ghost use Rattle.std.specs.Prelude.{◌≡◌, ℕ, ◌<◌, ◌≤◌, Bool, true, false, not, List, length, replicate, slice_index_or, slice_set, IfOk, MatchOption};
+ghost use Rattle.std.specs.Prelude.{◌≡◌, ℕ, ◌<◌, ◌≤◌, Bool, true, false, not, List, length, replicate, slice_index_or};
+ghost use Rattle.std.specs.Prelude.{slice_set, IfOk, MatchOption};
 ghost use Rattle.cell_sets.specs.Marks.{HasCell, HasNoneFrom, members_in};
 
 use amdl_tree::NoMemory;

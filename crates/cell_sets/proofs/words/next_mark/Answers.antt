@@ -7,10 +7,13 @@ returns-in-Some c =
     let found = c.in-Some.ensures in (
       omega arith,
       marked_at c.args.words.now c.loop-at.at c.in-Some.bit found.1 found.2,
-      no_mark_within c.args.words.now c.args.from c.loop-at.at c.saturating_sub-low.result c.saturating_sub-low.ensures c.loop-at.invariant c.in-Some.bit (omega arith) found.3,
+      no_mark_within c.args.words.now c.args.from c.loop-at.at c.saturating_sub-low.result c.saturating_sub-low.ensures
+          c.loop-at.invariant c.in-Some.bit (omega arith) found.3,
     )
 
 pub loop-at-preserved : goal.loop-at-preserved
 loop-at-preserved c =
-    let none = no_mark_within c.args.words.now c.args.from c.loop-at.at c.saturating_sub-low.result c.saturating_sub-low.ensures c.loop-at.invariant 64 (omega arith) c.in_default.ensures in
+    let none =
+    no_mark_within c.args.words.now c.args.from c.loop-at.at c.saturating_sub-low.result
+    c.saturating_sub-low.ensures c.loop-at.invariant 64 (omega arith) c.in_default.ensures in
     λ cell low high. none cell low (omega arith)

@@ -6,7 +6,8 @@ use Rattle.cell_sets.proofs.bit_set.BitSetCellSet.has.Goals as goal
 pub read_mark-requires : goal.read_mark-requires
 read_mark-requires c =
     subst (λ (s : List ℕ). c.args.cell / 64 < length s) (sym c.deref.ensures.value)
-    (in_words c.self.inside.words.items c.self.inside.cells c.args.self.now c.self.view_is c.args.cell c.requires c.self.invariant.0)
+    (in_words c.self.inside.words.items c.self.inside.cells c.args.self.now c.self.view_is c.args.cell c.requires
+    c.self.invariant.0)
 
 pub returns : goal.returns
 returns c =
