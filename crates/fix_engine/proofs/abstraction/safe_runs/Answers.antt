@@ -10,7 +10,8 @@ returns-clause-covered g c =
     let about = g.A.AbstractDomain.subject c.args.abstraction.now in
     let marks = g.S.CellSet.marks c.args.set.now in
     let below = subst (λ n. AreBelow n (members_of marks)) c.requires.cells (members_below marks) in
-    covered_run (g.A.Abstraction.is_first about) (g.A.Abstraction.leads about) (g.A.Abstraction.is_bad about) (g.A.Abstraction.covers about (members_of marks))
+    covered_run (g.A.Abstraction.is_first about) (g.A.Abstraction.leads about) (g.A.Abstraction.is_bad about)
+    (g.A.Abstraction.covers about (members_of marks))
     (g.A.Abstraction.is_bad_cell about) (members_of marks)
     (λ world. g.met.A.Abstraction.covers_first about (members_of marks) world below c.requires.closed)
     (λ old step new. g.met.A.Abstraction.covers_next about (members_of marks) old new step below c.requires.closed)
@@ -21,7 +22,8 @@ returns-clause-safe g c =
     let about = g.A.AbstractDomain.subject c.args.abstraction.now in
     let marks = g.S.CellSet.marks c.args.set.now in
     let below = subst (λ n. AreBelow n (members_of marks)) c.requires.cells (members_below marks) in
-    safe_run (g.A.Abstraction.is_first about) (g.A.Abstraction.leads about) (g.A.Abstraction.is_bad about) (g.A.Abstraction.covers about (members_of marks))
+    safe_run (g.A.Abstraction.is_first about) (g.A.Abstraction.leads about) (g.A.Abstraction.is_bad about)
+    (g.A.Abstraction.covers about (members_of marks))
     (g.A.Abstraction.is_bad_cell about) (members_of marks)
     (λ world. g.met.A.Abstraction.covers_first about (members_of marks) world below c.requires.closed)
     (λ old step new. g.met.A.Abstraction.covers_next about (members_of marks) old new step below c.requires.closed)

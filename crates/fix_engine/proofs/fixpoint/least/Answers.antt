@@ -10,7 +10,10 @@ use Rattle.fix_engine.proofs.fixpoint.least.Goals as goal
 pub loop-cell-init : goal.loop-cell-init
 loop-cell-init g c =
     let about = g.D.AbstractDomain.subject c.args.domain.now in
-    let begun = started (g.D.AbstractDomain.follows about) (g.D.AbstractDomain.count about) c.args.work.now c.starts.new.work c.requires c.starts.ensures.grows c.starts.ensures.all c.starts.ensures.only in
+    let begun =
+    started (g.D.AbstractDomain.follows about)
+    (g.D.AbstractDomain.count about) c.args.work.now c.starts.new.work c.requires c.starts.ensures.grows
+    c.starts.ensures.all c.starts.ensures.only in
     record {
       same = c.starts.ensures.same;
       cells = c.starts.ensures.grows.cells ∙ ap (λ p. p.cells) c.requires;
@@ -28,22 +31,33 @@ loop-cell-preserved g c =
     let old = c.loop-cell.work in
     let mid = c.take.new.self in
     let new = c.react.new.work in
-    let reacted = subst (λ a. HasReacted (g.D.AbstractDomain.follows a) c.in-Some.cell mid.done (found_in new)) kept.same c.react.ensures.all in
+    let reacted =
+    subst
+    (λ a. HasReacted (g.D.AbstractDomain.follows a) c.in-Some.cell mid.done
+    (found_in new)) kept.same c.react.ensures.all in
     record {
       same = c.react.ensures.same ∙ kept.same;
       cells = c.react.ensures.grows.cells ∙ taken.cells ∙ kept.cells;
       tracked = c.react.ensures.tracks;
       handled = handled_react rules old c.in-Some.cell mid new taken c.react.ensures.grows reacted kept.handled;
       derived = λ cell found.
-          derived_from rules (found_in mid) (λ other before. kept.derived other (subst (λ l. Contains l other) (Takes-found old c.in-Some.cell mid taken) before)) cell
-          (subst (λ a. IsDerivable (GivenOrFollows (g.D.AbstractDomain.follows a) (found_in mid)) cell) kept.same (c.react.ensures.only cell found));
+          derived_from rules (found_in mid)
+          (λ other before. kept.derived other
+          (subst (λ l. Contains l other) (Takes-found old c.in-Some.cell mid taken) before)) cell
+          (subst (λ a. IsDerivable (GivenOrFollows (g.D.AbstractDomain.follows a) (found_in mid)) cell) kept.same
+          (c.react.ensures.only cell found));
     }
 
 pub returns-clause-closed : goal.returns-clause-closed
 returns-clause-closed g c =
-    closed_end (g.D.AbstractDomain.follows (g.D.AbstractDomain.subject c.args.domain.now)) c.loop-cell.work c.take.new.self c.in_default.ensures.taken c.loop-cell.invariant.handled
+    closed_end
+    (g.D.AbstractDomain.follows
+    (g.D.AbstractDomain.subject c.args.domain.now)) c.loop-cell.work c.take.new.self c.in_default.ensures.taken
+    c.loop-cell.invariant.handled
 
 pub returns-clause-exact : goal.returns-clause-exact
 returns-clause-exact g c =
-    exact_end (g.D.AbstractDomain.follows (g.D.AbstractDomain.subject c.args.domain.now)) c.loop-cell.work c.take.new.self c.in_default.ensures.taken
+    exact_end
+    (g.D.AbstractDomain.follows
+    (g.D.AbstractDomain.subject c.args.domain.now)) c.loop-cell.work c.take.new.self c.in_default.ensures.taken
     c.loop-cell.invariant.handled c.loop-cell.invariant.derived

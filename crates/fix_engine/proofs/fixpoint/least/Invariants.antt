@@ -9,7 +9,8 @@ invariant-loop-cell g l =
       same : g.D.AbstractDomain.subject l.domain ≡ g.D.AbstractDomain.subject l.fn.domain;
       cells : l.work.cells ≡ g.D.AbstractDomain.count (g.D.AbstractDomain.subject l.fn.domain);
       tracked : g.D.AbstractDomain.tracks l.domain l.work;
-      handled : IsHandled (g.D.AbstractDomain.follows (g.D.AbstractDomain.subject l.fn.domain)) l.work.done (found_in l.work);
+      handled : IsHandled (g.D.AbstractDomain.follows (g.D.AbstractDomain.subject l.fn.domain)) l.work.done
+          (found_in l.work);
       derived : IsDerived (g.D.AbstractDomain.follows (g.D.AbstractDomain.subject l.fn.domain)) (found_in l.work);
     }
 

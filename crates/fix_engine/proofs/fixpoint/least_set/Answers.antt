@@ -8,7 +8,8 @@ pub returns-clause-closed : goal.returns-clause-closed
 returns-clause-closed g c =
     let marks = g.S.CellSet.marks c.into_set.result in
     let found = c.into_set.ensures.found in
-    closed_same (g.D.AbstractDomain.follows (g.D.AbstractDomain.subject c.args.domain.now)) (found_in c.least.new.work) (members_of marks) (λ cell. (
+    closed_same (g.D.AbstractDomain.follows (g.D.AbstractDomain.subject c.args.domain.now)) (found_in c.least.new.work)
+    (members_of marks) (λ cell. (
       λ has. (listed_iff marks cell).1 ((found cell).1 has),
       λ has. (found cell).0 ((listed_iff marks cell).0 has),
     )) c.least.ensures.closed

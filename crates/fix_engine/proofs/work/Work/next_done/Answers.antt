@@ -6,5 +6,11 @@ use Rattle.fix_engine.proofs.work.Work.next_done.Goals as goal
 pub returns : goal.returns
 returns g c =
     next_listed (g.S.CellSet.marks c.self.inside.taken) c.args.self.now.done c.args.self.now.cells
-    (c.self.invariant.sizes ∙ cells_are (g.S.CellSet.marks c.self.inside.found) (g.S.CellSet.marks c.self.inside.taken) c.self.inside.order.items c.self.inside.next (vec_capacity c.self.inside.order) c.self.invariant c.args.self.now c.self.view_is)
-    (done_iff (g.S.CellSet.marks c.self.inside.found) (g.S.CellSet.marks c.self.inside.taken) c.self.inside.order.items c.self.inside.next (vec_capacity c.self.inside.order) c.self.invariant c.args.self.now c.self.view_is) c.args.from c.next_from.result c.next_from.ensures
+    (c.self.invariant.sizes
+    ∙ cells_are (g.S.CellSet.marks c.self.inside.found)
+    (g.S.CellSet.marks c.self.inside.taken) c.self.inside.order.items c.self.inside.next
+    (vec_capacity c.self.inside.order) c.self.invariant c.args.self.now c.self.view_is)
+    (done_iff (g.S.CellSet.marks c.self.inside.found)
+    (g.S.CellSet.marks c.self.inside.taken) c.self.inside.order.items c.self.inside.next
+    (vec_capacity c.self.inside.order) c.self.invariant c.args.self.now c.self.view_is) c.args.from
+    c.next_from.result c.next_from.ensures
