@@ -4,7 +4,8 @@ ghost use Rattle.std.specs.List.{Contains};
 ghost use Rattle.amdl_tree.specs.Derivation.{IsDerivable};
 ghost use Rattle.fix_engine.specs.Progress.{found_in, Grows};
 ghost use Rattle.fix_engine.specs.Rules.{GivenOrFollows, HasReacted};
-ghost use Rattle.fix_examples.specs.Paths.{cells_of, cell_of, IsEdgePath, Follows, BeginsDone, IsFromFirst, IsFromSecond};
+ghost use Rattle.fix_examples.specs.Paths.{cells_of, cell_of, IsEdgePath, Follows, BeginsDone, IsFromFirst};
+ghost use Rattle.fix_examples.specs.Paths.{IsFromSecond};
 
 use crate::graph::Graph;
 use cell_sets::CellSet;

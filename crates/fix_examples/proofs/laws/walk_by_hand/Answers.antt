@@ -7,6 +7,16 @@ returns c = (
   (
     record { start = 0; place = 2 },
     record { edge_is = ((1, omega arith, refl), omega arith, omega arith); leaves = refl; start = refl; place = refl },
-    (record { start = 0; place = 3 }, record { edge_is = ((2, omega arith, refl), omega arith, omega arith); leaves = refl; start = refl; place = refl }, refl),
+    (
+      record { start = 0; place = 3 },
+      record {
+        edge_is =
+            ((2, omega arith, refl), omega arith, omega arith);
+        leaves = refl;
+        start = refl;
+        place = refl;
+      },
+      refl,
+    ),
   ),
 )

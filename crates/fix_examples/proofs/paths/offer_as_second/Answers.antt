@@ -19,10 +19,20 @@ loop-from-preserved g c =
     let below : at < graph.nodes = omega arith in
     elim c.if-is_done.branch [
       | then-is_done w ↦
-          let has : Contains old.done (cell_of graph at c.args.middle) = done_before old now tried.adds.grows c.cell_of.result (cell_of graph at c.args.middle) c.cell_of.ensures.is (c.is_done.ensures.0 w.if-is_done.true) in
-          let offers = subst (λ (x : ℕ). Offers now x w.offer.new.self) w.cell_of-then-is_done.ensures.is w.offer.ensures in
-          subst (λ p. Tried P D cell old p (at + 1)) (sym w.work-is) (tried_offer P D cell old now w.offer.new.self at tried offers (at, below, has, refl))
+          let has : Contains old.done (cell_of graph at c.args.middle) =
+          done_before old now tried.adds.grows c.cell_of.result
+          (cell_of graph at c.args.middle) c.cell_of.ensures.is (c.is_done.ensures.0 w.if-is_done.true) in
+          let offers =
+          subst (λ (x : ℕ). Offers now x w.offer.new.self) w.cell_of-then-is_done.ensures.is w.offer.ensures in
+          subst (λ p. Tried P D cell old p (at + 1)) (sym w.work-is)
+          (tried_offer P D cell old now w.offer.new.self at tried offers (at, below, has, refl))
       | else-is_done w ↦
           subst (λ p. Tried P D cell old p (at + 1)) (sym w.work-is)
-          (tried_skip P D cell old now at tried (λ reason. cc (w.if-is_done.false, c.is_done.ensures.1 (done_after old now tried.adds.grows c.cell_of.result (cell_of graph at c.args.middle) c.cell_of.ensures.is reason.1))))
+          (tried_skip P D cell old now at tried
+          (λ reason. cc (
+            w.if-is_done.false,
+            c.is_done.ensures.1
+                (done_after old now tried.adds.grows c.cell_of.result
+                (cell_of graph at c.args.middle) c.cell_of.ensures.is reason.1),
+          )))
     ]
