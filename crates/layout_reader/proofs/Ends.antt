@@ -17,13 +17,16 @@ pub no_end : (text of_box of_port : List ℕ) → Lacks 46 of_box → of_box ++ 
 no_end text of_box of_port lacks parted none (AtHost host) built e =
     whole 46 host (name_lacks 46 host refl built) of_box of_port (parted ∙ sym e)
 no_end text of_box of_port lacks parted none (AtPort box port) built e =
-    no_pair IsName IsName (λ name. name) (λ name. name) 46 [] text of_box of_port lacks parted (λ name named. name_lacks 46 name refl named)
+    no_pair IsName IsName (λ name. name) (λ name. name) 46 [] text of_box of_port lacks parted
+    (λ name named. name_lacks 46 name refl named)
     none box port built.0 built.1 (sym (append_assoc box (codes ".") port) ∙ e)
 
 -- an end has no byte but those of words and the dot
-pub end_lacks : (byte : ℕ) (end : End) → goes_on_with_word byte ≡ false → 46 ≢ byte → IsBuiltEnd end → Lacks byte (layout_of_end end)
+pub end_lacks : (byte : ℕ) (end : End) → goes_on_with_word byte ≡ false → 46 ≢ byte → IsBuiltEnd end →
+    Lacks byte (layout_of_end end)
 end_lacks byte (AtHost host) fails dot built = name_lacks byte host fails built
 end_lacks byte (AtPort box port) fails dot built =
     All-append (λ other. other ≢ byte) (box ++ codes ".") port
-    (All-append (λ other. other ≢ byte) box (codes ".") (name_lacks byte box fails built.0) (All-cons (λ other. other ≢ byte) 46 [] dot (All-nil (λ other. other ≢ byte))))
+    (All-append (λ other. other ≢ byte) box (codes ".") (name_lacks byte box fails built.0)
+    (All-cons (λ other. other ≢ byte) 46 [] dot (All-nil (λ other. other ≢ byte))))
     (name_lacks byte port fails built.1)

@@ -8,7 +8,8 @@ use Rattle.std.proofs.lemmas.Bool.Decides.{nat_tests}
 use Rattle.amdl_tree.specs.declared.tree.Equal.{Equal}
 use Rattle.amdl_tree.specs.declared.tree.End.{End}
 use Rattle.amdl_tree.specs.declared.tree.Item.{Item}
-use Rattle.amdl_tree.specs.declared.tree.Item.TheVariants.{Kind, Field, Class as OfClass, Host, Instance, Link, Sends, Forbid}
+use Rattle.amdl_tree.specs.declared.tree.Item.TheVariants.{Kind, Field, Class as OfClass, Host, Instance, Link, Sends}
+use Rattle.amdl_tree.specs.declared.tree.Item.TheVariants.{Forbid}
 use Rattle.amdl_tree.specs.Layout.{layout_of_end, layout_of_equal, layout_of_item, layout_of_pattern, listed}
 use Rattle.amdl_tree.specs.WellBuilt.{IsBuiltEnd, IsBuiltEqual}
 use Rattle.layout_reader.specs.Flat.{IsFlatBuilt}
@@ -40,7 +41,8 @@ clear_lacks byte text lacks =
 name_clear : (byte : ℕ) (name : List ℕ) → goes_on_with_word byte ≡ false → IsName name → is_clear byte name ≡ true
 name_clear byte name fails named = clear_lacks byte name (name_lacks byte name fails named)
 
-equal_clear : (byte : ℕ) (equal : Equal) → goes_on_with_word byte ≡ false → is_clear byte (codes " = ") ≡ true → IsBuiltEqual equal → is_clear byte (layout_of_equal equal) ≡ true
+equal_clear : (byte : ℕ) (equal : Equal) → goes_on_with_word byte ≡ false → is_clear byte (codes " = ") ≡ true →
+    IsBuiltEqual equal → is_clear byte (layout_of_equal equal) ≡ true
 equal_clear byte equal fails sign built =
     let field : is_clear byte equal.field ≡ true = name_clear byte equal.field fails built.0 in
     let value : is_clear byte equal.value ≡ true = name_clear byte equal.value fails built.1 in
@@ -50,29 +52,36 @@ equal_clear byte equal fails sign built =
 pub equal_lacks : (equal : Equal) → IsBuiltEqual equal → Lacks 44 (layout_of_equal equal)
 equal_lacks equal built = lacks_clear 44 (layout_of_equal equal) (equal_clear 44 equal refl refl built)
 
-led_clear : (pieces : List (List ℕ)) → All (λ piece. is_clear 10 piece ≡ true) pieces → is_clear 10 (flat_map (λ p. codes ", " ++ p) pieces) ≡ true
+led_clear : (pieces : List (List ℕ)) → All (λ piece. is_clear 10 piece ≡ true) pieces →
+    is_clear 10 (flat_map (λ p. codes ", " ++ p) pieces) ≡ true
 led_clear [] each = refl
 led_clear (piece ∷ pieces) each =
     let first : is_clear 10 piece ≡ true = All-head (λ piece. is_clear 10 piece ≡ true) piece pieces each in
-    let others : is_clear 10 (flat_map (λ p. codes ", " ++ p) pieces) ≡ true = led_clear pieces (All-tail (λ piece. is_clear 10 piece ≡ true) piece pieces each) in
+    let others : is_clear 10 (flat_map (λ p. codes ", " ++ p) pieces) ≡ true =
+    led_clear pieces (All-tail (λ piece. is_clear 10 piece ≡ true) piece pieces each) in
     simp (list_all-append, first, others)
 
-listed_clear : (pieces : List (List ℕ)) → All (λ piece. is_clear 10 piece ≡ true) pieces → is_clear 10 (listed pieces) ≡ true
+listed_clear : (pieces : List (List ℕ)) → All (λ piece. is_clear 10 piece ≡ true) pieces →
+    is_clear 10 (listed pieces) ≡ true
 listed_clear [] each = refl
 listed_clear (piece ∷ pieces) each =
     let first : is_clear 10 piece ≡ true = All-head (λ piece. is_clear 10 piece ≡ true) piece pieces each in
-    let others : is_clear 10 (flat_map (λ p. codes ", " ++ p) pieces) ≡ true = led_clear pieces (All-tail (λ piece. is_clear 10 piece ≡ true) piece pieces each) in
+    let others : is_clear 10 (flat_map (λ p. codes ", " ++ p) pieces) ≡ true =
+    led_clear pieces (All-tail (λ piece. is_clear 10 piece ≡ true) piece pieces each) in
     simp (list_all-append, first, others)
 
 values_clear : (values : List (List ℕ)) → All IsName values → is_clear 10 (listed values) ≡ true
-values_clear values named = listed_clear values (All-weaker IsName (λ value. is_clear 10 value ≡ true) (λ value. name_clear 10 value refl) values named)
+values_clear values named =
+    listed_clear values
+    (All-weaker IsName (λ value. is_clear 10 value ≡ true) (λ value. name_clear 10 value refl) values named)
 
 pattern_clear : (pattern : List Equal) → All IsBuiltEqual pattern → is_clear 10 (layout_of_pattern pattern) ≡ true
 pattern_clear [] built = refl
 pattern_clear (equal ∷ equals) built =
     listed_clear (map layout_of_equal (equal ∷ equals))
     (All-map (λ piece. is_clear 10 piece ≡ true) layout_of_equal (equal ∷ equals)
-    (All-weaker IsBuiltEqual (λ one. is_clear 10 (layout_of_equal one) ≡ true) (λ one. equal_clear 10 one refl refl) (equal ∷ equals) built))
+    (All-weaker IsBuiltEqual (λ one. is_clear 10 (layout_of_equal one) ≡ true) (λ one. equal_clear 10 one refl refl)
+    (equal ∷ equals) built))
 
 end_clear : (end : End) → IsBuiltEnd end → is_clear 10 (layout_of_end end) ≡ true
 end_clear end built = clear_lacks 10 (layout_of_end end) (end_lacks 10 end refl (omega arith) built)

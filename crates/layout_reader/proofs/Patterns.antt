@@ -7,7 +7,8 @@ use Rattle.amdl_tree.specs.WellBuilt.{IsBuiltEqual}
 use Rattle.layout_reader.specs.Reading.{IsReading}
 
 pattern_of : (text : List ℕ) → text ≢ codes "true" → (found : Option (List Equal)) →
-    IsReading (λ equals. (equals ≢ []) × All IsBuiltEqual equals) (λ equals. listed (map layout_of_equal equals)) text found →
+    IsReading (λ equals. (equals ≢ []) × All IsBuiltEqual equals)
+    (λ equals. listed (map layout_of_equal equals)) text found →
     IsReading (All IsBuiltEqual) layout_of_pattern text found
 pattern_of text other None none = neither
   where
@@ -18,7 +19,9 @@ pattern_of text other (Some []) (built, is) = absurd (built.0 refl)
 pattern_of text other (Some (equal ∷ equals)) (built, is) = (built.1, is)
 
 pub pattern_of_equals : {E : Type 0} (text : List ℕ) → text ≢ codes "true" → (result : Result (Option (List Equal)) E) →
-    IfOk result (IsReading (λ equals. (equals ≢ []) × All IsBuiltEqual equals) (λ equals. listed (map layout_of_equal equals)) text) →
+    IfOk result
+    (IsReading (λ equals. (equals ≢ []) × All IsBuiltEqual equals)
+    (λ equals. listed (map layout_of_equal equals)) text) →
     IfOk result (IsReading (All IsBuiltEqual) layout_of_pattern text)
 pattern_of_equals text other (Ok found) holds = pattern_of text other found holds
 pattern_of_equals text other (Err e) holds = holds

@@ -18,7 +18,8 @@ lines_of items = flat_map (λ item. line (layout_of_item item)) items
 pub record IsReadTo (read : List Item) (rest text : List ℕ) : Type 0 where
   pub built : All IsFlatBuilt read
   pub begun : lines_of read ++ rest ≡ text
-  pub only : ((more : List Item) → All IsFlatBuilt more → lines_of more ≢ rest) → (all : List Item) → All IsFlatBuilt all → lines_of all ≢ text
+  pub only : ((more : List Item) → All IsFlatBuilt more → lines_of more ≢ rest) → (all : List Item) →
+      All IsFlatBuilt all → lines_of all ≢ text
 
 pub begin : (text : List ℕ) → IsReadTo [] text text
 begin text = record { built = All-nil IsFlatBuilt; begun = refl; only = λ none. none }
@@ -31,21 +32,33 @@ record HasFirst (first others : List ℕ) : Type 0 where
   item_is : layout_of_item item ≡ first
   left_is : lines_of left ≡ others
 
-has_first : (first others rest : List ℕ) → Lacks 10 first → first ++ 10 ∷ others ≡ rest → (more : List Item) → All IsFlatBuilt more → lines_of more ≡ rest → HasFirst first others
-has_first first others rest lacks parted [] built e = absurd (whole 10 [] (All-nil (λ other. other ≢ 10)) first others (parted ∙ sym e))
+has_first : (first others rest : List ℕ) → Lacks 10 first → first ++ 10 ∷ others ≡ rest → (more : List Item) →
+    All IsFlatBuilt more → lines_of more ≡ rest → HasFirst first others
+has_first first others rest lacks parted [] built e =
+    absurd (whole 10 [] (All-nil (λ other. other ≢ 10)) first others (parted ∙ sym e))
 has_first first others rest lacks parted (item ∷ more) built e =
     let item_built : IsFlatBuilt item = All-head IsFlatBuilt item more built in
     let same : (layout_of_item item ≡ first) × (lines_of more ≡ others) =
-    parts 10 [] rest first others (layout_of_item item) (lines_of more) lacks parted (item_lacks item item_built) (sym (append_assoc (layout_of_item item) (10 ∷ []) (lines_of more)) ∙ e) in
-    record { item = item; left = more; item_built = item_built; left_built = All-tail IsFlatBuilt item more built; item_is = same.0; left_is = same.1 }
+    parts 10 [] rest first others (layout_of_item item) (lines_of more) lacks parted (item_lacks item item_built)
+    (sym (append_assoc (layout_of_item item) (10 ∷ []) (lines_of more)) ∙ e) in
+    record {
+      item = item;
+      left = more;
+      item_built = item_built;
+      left_built = All-tail IsFlatBuilt item more built;
+      item_is = same.0;
+      left_is = same.1;
+    }
 
 -- one more line was read
-pub next : (read : List Item) (rest text first others : List ℕ) → IsReadTo read rest text → Lacks 10 first → first ++ 10 ∷ others ≡ rest →
+pub next : (read : List Item) (rest text first others : List ℕ) → IsReadTo read rest text → Lacks 10 first →
+    first ++ 10 ∷ others ≡ rest →
     (item : Item) → IsFlatBuilt item → layout_of_item item ≡ first → IsReadTo (read ++ item ∷ []) others text
 next read rest text first others was lacks parted item built is = record {
   built = All-push IsFlatBuilt read item was.built built;
   begun =
-      let here : line (layout_of_item item) ++ others ≡ rest = append_assoc (layout_of_item item) (10 ∷ []) others ∙ ap (λ (p : List ℕ). p ++ (10 ∷ others)) is ∙ parted in
+      let here : line (layout_of_item item) ++ others ≡ rest =
+      append_assoc (layout_of_item item) (10 ∷ []) others ∙ ap (λ (p : List ℕ). p ++ (10 ∷ others)) is ∙ parted in
       ap (λ (front : List ℕ). front ++ others) (sym (flat_map_more (λ item. line (layout_of_item item)) [] read item)) ∙
       append_assoc (lines_of read) (line (layout_of_item item)) others ∙
       ap (λ (back : List ℕ). lines_of read ++ back) here ∙ was.begun;
@@ -58,8 +71,10 @@ next read rest text first others was lacks parted item built is = record {
 }
 
 -- a line that is no item ends it
-pub no_line : (read : List Item) (rest text first others : List ℕ) → IsReadTo read rest text → Lacks 10 first → first ++ 10 ∷ others ≡ rest →
-    ((item : Item) → IsFlatBuilt item → layout_of_item item ≢ first) → (all : List Item) → All IsFlatBuilt all → lines_of all ≢ text
+pub no_line : (read : List Item) (rest text first others : List ℕ) → IsReadTo read rest text → Lacks 10 first →
+    first ++ 10 ∷ others ≡ rest →
+    ((item : Item) → IsFlatBuilt item → layout_of_item item ≢ first) → (all : List Item) → All IsFlatBuilt all →
+    lines_of all ≢ text
 no_line read rest text first others was lacks parted none =
     was.only
     (λ more more_built e.
@@ -67,13 +82,15 @@ no_line read rest text first others was lacks parted none =
     none it.item it.item_built it.item_is)
 
 -- and so does a rest without a line feed
-pub no_end_of_line : (read : List Item) (rest text : List ℕ) → IsReadTo read rest text → rest ≢ [] → Lacks 10 rest → (all : List Item) → All IsFlatBuilt all → lines_of all ≢ text
+pub no_end_of_line : (read : List Item) (rest text : List ℕ) → IsReadTo read rest text → rest ≢ [] → Lacks 10 rest →
+    (all : List Item) → All IsFlatBuilt all → lines_of all ≢ text
 no_end_of_line read rest text was left lacks = was.only none
   where
     none : (more : List Item) → All IsFlatBuilt more → lines_of more ≢ rest
     none [] built e = left (sym e)
     none (item ∷ more) built e =
-        whole 10 rest lacks (layout_of_item item) (lines_of more) (sym (append_assoc (layout_of_item item) (10 ∷ []) (lines_of more)) ∙ e)
+        whole 10 rest lacks (layout_of_item item) (lines_of more)
+        (sym (append_assoc (layout_of_item item) (10 ∷ []) (lines_of more)) ∙ e)
 
 pub filled : (rest : List ℕ) → false ≡ nat_eq (length rest) 0 → rest ≢ []
 filled [] test e = cc

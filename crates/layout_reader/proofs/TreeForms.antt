@@ -25,7 +25,10 @@ no_head text lacks tree built e = whole 10 text lacks (head_of tree.name) (lines
 
 -- a text whose first line or whose other lines are none
 pub no_tree : (text head rest : List ℕ) → Lacks 10 head → head ++ 10 ∷ rest ≡ text →
-    ((name : List ℕ) → IsName name → head_of name ≢ head) ⊎ ((items : List Item) → All IsFlatBuilt items → lines_of items ≢ rest) →
+    ((name : List ℕ) → IsName name → head_of name ≢ head)
+    ⊎ ((items : List Item) → All IsFlatBuilt items → lines_of items ≢ rest) →
     (tree : Tree) → IsFlatTree tree → layout_of_tree tree ≢ text
 no_tree text head rest lacks parted none tree built e =
-    no_pair IsName (All IsFlatBuilt) head_of lines_of 10 [] text head rest lacks parted head_lacks none tree.name tree.items built.named built.items (tree_parts tree ∙ e)
+    no_pair IsName
+    (All IsFlatBuilt) head_of lines_of 10 [] text head rest lacks parted head_lacks none tree.name tree.items
+    built.named built.items (tree_parts tree ∙ e)

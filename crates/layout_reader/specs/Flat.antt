@@ -4,7 +4,8 @@ use Rattle.std.specs.List.{All}
 use Rattle.amdl_tree.specs.Word.{IsName}
 use Rattle.amdl_tree.specs.WellBuilt.{IsBuiltEqual, IsBuiltEnd}
 use Rattle.amdl_tree.specs.declared.tree.Item.{Item}
-use Rattle.amdl_tree.specs.declared.tree.Item.TheVariants.{Kind, Field, Class as OfClass, Host, Instance, Link, Sends, Forbid}
+use Rattle.amdl_tree.specs.declared.tree.Item.TheVariants.{Kind, Field, Class as OfClass, Host, Instance, Link, Sends}
+use Rattle.amdl_tree.specs.declared.tree.Item.TheVariants.{Forbid}
 use Rattle.amdl_tree.specs.declared.tree.Tree.{Tree}
 
 -- well built, and neither a class nor a box

@@ -28,7 +28,8 @@ pub fn between<'a>(text: &'a [u8], first: &[u8], last: &[u8]) -> Option<&'a [u8]
     before(after(text, first)?, last)
 }
 
-/// The bytes before the first byte that is this one, and those behind it. None comes exactly where there is no such byte.
+/// The bytes before the first byte that is this one, and those behind it. None comes exactly where there is no such
+/// byte.
 pub fn until(text: &[u8], end: u8) -> Option<(&[u8], &[u8])>
     ensures { MatchOption result
         (Lacks end text.now)

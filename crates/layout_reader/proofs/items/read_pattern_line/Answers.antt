@@ -8,5 +8,8 @@ use Rattle.layout_reader.proofs.items.read_pattern_line.Goals as goal
 
 pub returns-in-Some : goal.returns-in-Some
 returns-in-Some c =
-    framed_result (λ said. IsName said.0 × All IsBuiltEqual said.1) (λ said. said.0 ++ codes " : " ++ layout_of_pattern said.1)
-    c.args.word.now (codes ";") c.in-Some.inner.now c.args.line.now c.in-Some.ensures c.read_host_and_pattern.result c.read_host_and_pattern.ensures
+    framed_result (λ said. IsName said.0 × All IsBuiltEqual said.1)
+    (λ said. said.0 ++ codes " : " ++ layout_of_pattern said.1)
+    c.args.word.now
+    (codes ";") c.in-Some.inner.now c.args.line.now c.in-Some.ensures c.read_host_and_pattern.result
+    c.read_host_and_pattern.ensures

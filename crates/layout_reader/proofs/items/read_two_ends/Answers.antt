@@ -17,14 +17,17 @@ pub returns-in_err-one-2 : goal.returns-in_err-one-2
 returns-in_err-one-2 c =
     rw c.from_residual-in_err-one-2.ensures
     (λ ends built e.
-    no_pair IsBuiltEnd IsBuiltEnd layout_of_end layout_of_end 32 (codes "-- ") c.args.text.now c.in_ok-one.one.now c.in_ok-one.two.now
-    c.in_ok-one.ensures.0 c.in_ok-one.ensures.1 (λ end. end_lacks 32 end refl (omega arith)) (inl c.in_err-one-2.ensures)
+    no_pair IsBuiltEnd IsBuiltEnd layout_of_end layout_of_end 32
+    (codes "-- ") c.args.text.now c.in_ok-one.one.now c.in_ok-one.two.now
+    c.in_ok-one.ensures.0 c.in_ok-one.ensures.1 (λ end. end_lacks 32 end refl (omega arith))
+    (inl c.in_err-one-2.ensures)
     ends.0 ends.1 built.0 built.1 (sym (append_assoc (layout_of_end ends.0) (codes " -- ") (layout_of_end ends.1)) ∙ e))
 
 pub returns-in_err-two : goal.returns-in_err-two
 returns-in_err-two c =
     rw c.from_residual-in_err-two.ensures
     (λ ends built e.
-    no_pair IsBuiltEnd IsBuiltEnd layout_of_end layout_of_end 32 (codes "-- ") c.args.text.now c.in_ok-one.one.now c.in_ok-one.two.now
+    no_pair IsBuiltEnd IsBuiltEnd layout_of_end layout_of_end 32
+    (codes "-- ") c.args.text.now c.in_ok-one.one.now c.in_ok-one.two.now
     c.in_ok-one.ensures.0 c.in_ok-one.ensures.1 (λ end. end_lacks 32 end refl (omega arith)) (inr c.in_err-two.ensures)
     ends.0 ends.1 built.0 built.1 (sym (append_assoc (layout_of_end ends.0) (codes " -- ") (layout_of_end ends.1)) ∙ e))

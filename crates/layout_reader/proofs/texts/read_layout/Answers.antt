@@ -7,7 +7,8 @@ returns-in_default c = no_head c.args.text.now c.in_default.ensures
 
 pub returns-in_default-read_head : goal.returns-in_default-read_head
 returns-in_default-read_head c =
-    no_tree c.args.text.now c.in-Some.head.now c.in-Some.rest.now c.in-Some.ensures.0 c.in-Some.ensures.1 (inl c.in_default-read_head.ensures)
+    no_tree c.args.text.now c.in-Some.head.now c.in-Some.rest.now c.in-Some.ensures.0 c.in-Some.ensures.1
+    (inl c.in_default-read_head.ensures)
 
 pub returns-in_default-2 : goal.returns-in_default-2
 returns-in_default-2 c =

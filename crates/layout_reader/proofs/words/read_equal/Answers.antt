@@ -6,4 +6,5 @@ pub returns-in_err-field : goal.returns-in_err-field
 returns-in_err-field c =
     rw c.from_residual.ensures
     (λ equal built e.
-    c.in_err-field.ensures (equal.field, equal.value) built (sym (append_assoc equal.field (codes " = ") equal.value) ∙ e))
+    c.in_err-field.ensures (equal.field, equal.value) built
+    (sym (append_assoc equal.field (codes " = ") equal.value) ∙ e))
