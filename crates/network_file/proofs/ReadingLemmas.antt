@@ -15,7 +15,8 @@ use Rattle.amdl_parser.specs.Answer.{IsFullAnswer, OneAnswer as OneParsing, toke
 use Rattle.amdl_parser.specs.declared.refusal.SyntaxRefusal.{SyntaxRefusal}
 use Rattle.amdl_parser.specs.declared.refusal.SyntaxRefusal.TheVariants as parsing
 use Rattle.network_file.specs.declared.reading.ReadRefusal.{ReadRefusal}
-use Rattle.network_file.specs.declared.reading.ReadRefusal.TheVariants.{BadByte, WordTooLong, TooManyTokens, Syntax, Deep}
+use Rattle.network_file.specs.declared.reading.ReadRefusal.TheVariants.{BadByte, WordTooLong, TooManyTokens, Syntax}
+use Rattle.network_file.specs.declared.reading.ReadRefusal.TheVariants.{Deep}
 use Rattle.network_file.specs.Reading.{HasTokens, HasTokensReadAs, IsParsedAs, IsReadAs}
 use Rattle.network_file.specs.Laws.{OneReading, LayoutReadsBack}
 
@@ -30,9 +31,12 @@ has_tokens text lexeds read = record {
 }
 
 -- and is read as they are
-pub read_as : (text : List ℕ) (tokens : List Token) (reading : Result Tree ReadRefusal) → HasTokens text tokens → IsParsedAs tokens reading → IsReadAs text reading
-read_as text tokens (Ok tree) has parsed =
-    (record { shaped = parsed.0; stands = subst (StandsFor text) (sym parsed.1) has.stands }, subst (λ (t : List Token). length t ≤ 1000000) (sym parsed.1) has.few)
+pub read_as : (text : List ℕ) (tokens : List Token) (reading : Result Tree ReadRefusal) → HasTokens text tokens →
+    IsParsedAs tokens reading → IsReadAs text reading
+read_as text tokens (Ok tree) has parsed = (
+  record { shaped = parsed.0; stands = subst (StandsFor text) (sym parsed.1) has.stands },
+  subst (λ (t : List Token). length t ≤ 1000000) (sym parsed.1) has.few,
+)
 read_as text tokens (Err (BadByte at)) has parsed = absurd parsed
 read_as text tokens (Err (WordTooLong at)) has parsed = absurd parsed
 read_as text tokens (Err TooManyTokens) has parsed = absurd parsed
@@ -48,7 +52,8 @@ of_lexing lexing.NoMemory = Err TooManyTokens
 
 data Side (text : List ℕ) (reading : Result Tree ReadRefusal) : Type 0 where
   by_tokens : (lexeds : List Lexed) → IsLexed text lexeds → IsParsedAs (tokens_of lexeds) reading → Side text reading
-  by_bytes : (refusal : LexRefusal) → refusal ≢ lexing.NoMemory → IsRefused text refusal → reading ≡ of_lexing refusal → Side text reading
+  by_bytes : (refusal : LexRefusal) → refusal ≢ lexing.NoMemory → IsRefused text refusal → reading ≡ of_lexing refusal →
+      Side text reading
 
 of_tokens : (text : List ℕ) (reading : Result Tree ReadRefusal) → HasTokensReadAs text reading → Side text reading
 of_tokens text reading (tokens, has, parsed) =
@@ -60,7 +65,8 @@ of_tokens text reading (tokens, has, parsed) =
 
 side_of : (text : List ℕ) (reading : Result Tree ReadRefusal) → IsReadAs text reading → Side text reading
 unfolding of_lexing
-side_of text (Ok tree) read = of_tokens text (Ok tree) (spell tree, record { stands = read.0.stands; few = read.1 }, (read.0.shaped, refl))
+side_of text (Ok tree) read =
+    of_tokens text (Ok tree) (spell tree, record { stands = read.0.stands; few = read.1 }, (read.0.shaped, refl))
 side_of text (Err (BadByte at)) read = by_bytes (lexing.BadByte at) (λ e. cc) read refl
 side_of text (Err (WordTooLong at)) read = by_bytes (lexing.WordTooLong at) (λ e. cc) read refl
 side_of text (Err TooManyTokens) read = by_bytes lexing.TooManyTokens (λ e. cc) read refl
@@ -74,7 +80,8 @@ of_parsing (Err (parsing.Syntax at)) = Err (Syntax at)
 of_parsing (Err (parsing.Deep at)) = Err (Deep at)
 of_parsing (Err parsing.NoMemory) = Err TooManyTokens
 
-parsed_by : (tokens : List Token) (reading : Result Tree ReadRefusal) → IsParsedAs tokens reading → (answer : Result Tree SyntaxRefusal) × IsFullAnswer tokens answer × (reading ≡ of_parsing answer)
+parsed_by : (tokens : List Token) (reading : Result Tree ReadRefusal) → IsParsedAs tokens reading →
+    (answer : Result Tree SyntaxRefusal) × IsFullAnswer tokens answer × (reading ≡ of_parsing answer)
 unfolding of_parsing
 parsed_by tokens (Ok tree) parsed = (Ok tree, (parsed, λ e. cc), refl)
 parsed_by tokens (Err (BadByte at)) parsed = absurd parsed
@@ -84,7 +91,8 @@ parsed_by tokens (Err (Syntax at)) parsed = (Err (parsing.Syntax at), (parsed, �
 parsed_by tokens (Err (Deep at)) parsed = (Err (parsing.Deep at), (parsed, λ e. cc), refl)
 
 module _ (lex_once : OneLexing) (parse_once : OneParsing) where
-  parsed_once : (tokens : List Token) (one two : Result Tree ReadRefusal) → IsParsedAs tokens one → IsParsedAs tokens two → one ≡ two
+  parsed_once : (tokens : List Token) (one two : Result Tree ReadRefusal) → IsParsedAs tokens one →
+      IsParsedAs tokens two → one ≡ two
   parsed_once tokens one two first second =
       let p = parsed_by tokens one first in
       let q = parsed_by tokens two second in
@@ -94,7 +102,8 @@ module _ (lex_once : OneLexing) (parse_once : OneParsing) where
   sides_once text one two (by_tokens a read parsed) (by_tokens b read' parsed') =
       let both : Ok a ≡ Ok b = lex_once text (Ok a) (Ok b) read read' in
       let same : a ≡ b = cc in
-      parsed_once (tokens_of a) one two parsed (subst (λ (l : List Lexed). IsParsedAs (tokens_of l) two) (sym same) parsed')
+      parsed_once (tokens_of a) one two parsed
+      (subst (λ (l : List Lexed). IsParsedAs (tokens_of l) two) (sym same) parsed')
   sides_once text one two (by_tokens a read parsed) (by_bytes refusal some refused e) =
       absurd (let both : Ok a ≡ Err refusal = lex_once text (Ok a) (Err refusal) read (some, refused) in cc)
   sides_once text one two (by_bytes refusal some refused e) (by_tokens a read parsed) =

@@ -9,7 +9,8 @@ use Rattle.amdl_tree.specs.declared.tree.Tree.{Tree}
 use Rattle.amdl_lexer.specs.Answer.{StartsNothing, StartsOverlong, StopsAt, IsOverfull}
 use Rattle.amdl_parser.specs.Answer.{IsSyntaxAt, IsDeepAt}
 use Rattle.network_file.specs.declared.reading.ReadRefusal.{ReadRefusal}
-use Rattle.network_file.specs.declared.reading.ReadRefusal.TheVariants.{BadByte, WordTooLong, TooManyTokens, Syntax, Deep}
+use Rattle.network_file.specs.declared.reading.ReadRefusal.TheVariants.{BadByte, WordTooLong, TooManyTokens, Syntax}
+use Rattle.network_file.specs.declared.reading.ReadRefusal.TheVariants.{Deep}
 
 -- the text stands for these tokens, which are not too many
 pub record HasTokens (text : List ℕ) (tokens : List Token) : Type 0 where

@@ -8,7 +8,11 @@ use Rattle.network_file.proofs.reading.read_text.Goals as goal
 
 pub returns-in-Ok : goal.returns-in-Ok
 returns-in-Ok c =
-    let parsed = subst (λ (lexeds : List Lexed). IfOk c.read_tokens.result (IsParsedAs (tokens_of lexeds))) c.as_slice.ensures c.read_tokens.ensures in
+    let parsed =
+    subst
+    (λ (lexeds : List Lexed). IfOk c.read_tokens.result
+    (IsParsedAs (tokens_of lexeds))) c.as_slice.ensures c.read_tokens.ensures in
     IfOk-weaker c.read_tokens.result (IsParsedAs (tokens_of c.in-Ok.tokens)) (IsReadAs c.args.text.now)
-    (λ reading. read_as c.args.text.now (tokens_of c.in-Ok.tokens) reading (has_tokens c.args.text.now c.in-Ok.tokens c.in-Ok.ensures.answer))
+    (λ reading. read_as c.args.text.now (tokens_of c.in-Ok.tokens) reading
+    (has_tokens c.args.text.now c.in-Ok.tokens c.in-Ok.ensures.answer))
     parsed
