@@ -1,4 +1,5 @@
 mod FitLemmas
 mod FormLemmas
+mod FrontLemmas
 mod LineLemmas
 mod ListLemmas

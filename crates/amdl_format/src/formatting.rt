@@ -2,7 +2,7 @@ ghost use Rattle.std.specs.Prelude.{◌≡◌, ◌++◌, codes, OnErr, OnOk};
 ghost use Rattle.amdl_tree.specs.Layout.{layout_of_tree};
 ghost use Rattle.amdl_tree.specs.NetworkFile.{IsFileOf};
 ghost use Rattle.amdl_tree.specs.WellBuilt.{IsShaped};
-ghost use Rattle.amdl_tree.specs.Appends.{Keeps};
+ghost use Rattle.amdl_format.specs.Fronts.{KeepsFronts};
 
 use crate::append::put_all;
 use crate::items::put_item;
@@ -40,11 +40,10 @@ fn put_whole(tree: &Tree, out: &mut Vec<u8>) -> Result<(), NoMemory>
 }
 
 /// Appends the layout.
-#[tactic(auto, using(amdl_tree::proofs::AppendLemmas::keeps_same, crate::proofs::ListLemmas::pieces_step))]
 pub(crate) fn put_tree(tree: &Tree, out: &mut Vec<u8>) -> Result<(), NoMemory>
     requires { IsShaped tree.now }
     ensures ok { OnOk result (out.new.items ≡ out.old.items ++ layout_of_tree tree.now) }
-    ensures kept { Keeps out.old.items out.new.items }
+    ensures kept { KeepsFronts out.old.items out.new.items }
 {
     put_all(out, &[b"network ", tree.name.bytes(), b";\n"])?;
     for item in tree.items.as_slice() {

@@ -1,17 +1,16 @@
 ghost use Rattle.std.specs.Prelude.{◌≡◌, ◌++◌, codes, OnOk};
 ghost use Rattle.amdl_tree.specs.Layout.{joined, layout_of_atom, layout_of_guard, layout_of_lit};
-ghost use Rattle.amdl_tree.specs.Appends.{Keeps};
+ghost use Rattle.amdl_format.specs.Fronts.{KeepsFronts};
 
 use crate::append::put_all;
 use crate::parts::put_atom;
 use amdl_tree::{Atom, Guard, Lit, Name, NoMemory};
 
 /// Appends a guard. Linear in its parts.
-#[tactic(auto, using(amdl_tree::proofs::AppendLemmas::keeps_same, crate::proofs::ListLemmas::led_step_twice, crate::proofs::ListLemmas::led_joined, amdl_tree::proofs::LineLemmas::guard_layout))]
 #[cycle(guards)]
 pub(crate) fn put_guard(guard: &Guard, out: &mut Vec<u8>) -> Result<(), NoMemory>
     ensures ok { OnOk result (out.new.items ≡ out.old.items ++ layout_of_guard guard.now) }
-    ensures kept { Keeps out.old.items out.new.items }
+    ensures kept { KeepsFronts out.old.items out.new.items }
 {
     let mut before: &[u8] = b"";
     for lits in guard.any.as_slice() {
@@ -22,11 +21,10 @@ pub(crate) fn put_guard(guard: &Guard, out: &mut Vec<u8>) -> Result<(), NoMemory
     Ok(())
 }
 
-#[tactic(auto, using(amdl_tree::proofs::AppendLemmas::keeps_same, crate::proofs::ListLemmas::led_step_twice, crate::proofs::ListLemmas::led_joined))]
 #[cycle(guards)]
 fn put_conj(lits: &[Lit], out: &mut Vec<u8>) -> Result<(), NoMemory>
     ensures ok { OnOk result (out.new.items ≡ out.old.items ++ joined (codes " and ") layout_of_lit lits.now) }
-    ensures kept { Keeps out.old.items out.new.items }
+    ensures kept { KeepsFronts out.old.items out.new.items }
 {
     let mut before: &[u8] = b"";
     for lit in lits {
@@ -37,11 +35,10 @@ fn put_conj(lits: &[Lit], out: &mut Vec<u8>) -> Result<(), NoMemory>
     Ok(())
 }
 
-#[tactic(auto, using(crate::proofs::FormLemmas::true_text, crate::proofs::FormLemmas::has_text, crate::proofs::FormLemmas::same_text, crate::proofs::FormLemmas::differ_text, crate::proofs::FormLemmas::not_text, crate::proofs::FormLemmas::group_text))]
 #[cycle(guards)]
 fn put_lit(lit: &Lit, out: &mut Vec<u8>) -> Result<(), NoMemory>
     ensures ok { OnOk result (out.new.items ≡ out.old.items ++ layout_of_lit lit.now) }
-    ensures kept { Keeps out.old.items out.new.items }
+    ensures kept { KeepsFronts out.old.items out.new.items }
 {
     match lit {
         Lit::True => put_all(out, &[b"true"]),
@@ -55,7 +52,7 @@ fn put_lit(lit: &Lit, out: &mut Vec<u8>) -> Result<(), NoMemory>
 
 fn put_has(atom: &Atom, out: &mut Vec<u8>) -> Result<(), NoMemory>
     ensures ok { OnOk result (out.new.items ≡ out.old.items ++ (codes "has " ++ layout_of_atom atom.now)) }
-    ensures kept { Keeps out.old.items out.new.items }
+    ensures kept { KeepsFronts out.old.items out.new.items }
 {
     put_all(out, &[b"has "])?;
     put_atom(atom, out)
@@ -63,7 +60,7 @@ fn put_has(atom: &Atom, out: &mut Vec<u8>) -> Result<(), NoMemory>
 
 fn put_compared(one: Name, sign: &[u8], two: Name, out: &mut Vec<u8>) -> Result<(), NoMemory>
     ensures ok { OnOk result (out.new.items ≡ out.old.items ++ (one ++ sign.now ++ two)) }
-    ensures kept { Keeps out.old.items out.new.items }
+    ensures kept { KeepsFronts out.old.items out.new.items }
 {
     put_all(out, &[one.bytes(), sign, two.bytes()])
 }
@@ -71,7 +68,7 @@ fn put_compared(one: Name, sign: &[u8], two: Name, out: &mut Vec<u8>) -> Result<
 #[cycle(guards)]
 fn put_denied(lit: &Lit, out: &mut Vec<u8>) -> Result<(), NoMemory>
     ensures ok { OnOk result (out.new.items ≡ out.old.items ++ (codes "not " ++ layout_of_lit lit.now)) }
-    ensures kept { Keeps out.old.items out.new.items }
+    ensures kept { KeepsFronts out.old.items out.new.items }
 {
     put_all(out, &[b"not "])?;
     put_lit(lit, out)
@@ -80,7 +77,7 @@ fn put_denied(lit: &Lit, out: &mut Vec<u8>) -> Result<(), NoMemory>
 #[cycle(guards)]
 fn put_group(guard: &Guard, out: &mut Vec<u8>) -> Result<(), NoMemory>
     ensures ok { OnOk result (out.new.items ≡ out.old.items ++ (codes "(" ++ layout_of_guard guard.now ++ codes ")")) }
-    ensures kept { Keeps out.old.items out.new.items }
+    ensures kept { KeepsFronts out.old.items out.new.items }
 {
     put_all(out, &[b"("])?;
     put_guard(guard, out)?;

@@ -1,5 +1,5 @@
 //! The canonical layout of a tree, appended to a buffer.
-#![tactic(auto, using(amdl_tree::proofs::AppendLemmas::keeps_after, amdl_tree::proofs::AppendLemmas::keeps_appended, amdl_tree::proofs::AppendLemmas::keeps_same))]
+#![tactic(auto)]
 
 mod append;
 mod formatting;

@@ -1,15 +1,15 @@
 ghost use Rattle.std.specs.Prelude.{◌≡◌, ◌++◌, codes, map, OnOk};
-ghost use Rattle.amdl_tree.specs.Layout.{listed, layout_of_atom, layout_of_changes, layout_of_end, layout_of_equal, layout_of_first, layout_of_pattern};
-ghost use Rattle.amdl_tree.specs.Appends.{Keeps};
+ghost use Rattle.amdl_tree.specs.Layout.{listed, layout_of_atom, layout_of_changes, layout_of_end, layout_of_equal};
+ghost use Rattle.amdl_tree.specs.Layout.{layout_of_first, layout_of_pattern};
+ghost use Rattle.amdl_format.specs.Fronts.{KeepsFronts};
 
 use crate::append::put_all;
 use amdl_tree::{Atom, End, Equal, Name, NoMemory};
 
 /// Appends names with commas between. Linear in the names, as each of these is in its parts.
-#[tactic(auto, using(amdl_tree::proofs::AppendLemmas::keeps_same, crate::proofs::ListLemmas::led_step, crate::proofs::ListLemmas::led_names))]
 pub(crate) fn put_names(names: &[Name], out: &mut Vec<u8>) -> Result<(), NoMemory>
     ensures ok { OnOk result (out.new.items ≡ out.old.items ++ listed names.now) }
-    ensures kept { Keeps out.old.items out.new.items }
+    ensures kept { KeepsFronts out.old.items out.new.items }
 {
     let mut comma: &[u8] = b"";
     for name in names {
@@ -22,7 +22,7 @@ pub(crate) fn put_names(names: &[Name], out: &mut Vec<u8>) -> Result<(), NoMemor
 /// Appends a relation with its arguments.
 pub(crate) fn put_atom(atom: &Atom, out: &mut Vec<u8>) -> Result<(), NoMemory>
     ensures ok { OnOk result (out.new.items ≡ out.old.items ++ layout_of_atom atom.now) }
-    ensures kept { Keeps out.old.items out.new.items }
+    ensures kept { KeepsFronts out.old.items out.new.items }
 {
     put_tuple(atom.relation, atom.args.as_slice(), out)
 }
@@ -30,7 +30,7 @@ pub(crate) fn put_atom(atom: &Atom, out: &mut Vec<u8>) -> Result<(), NoMemory>
 /// Appends a name and names in parentheses behind it.
 pub(crate) fn put_tuple(name: Name, names: &[Name], out: &mut Vec<u8>) -> Result<(), NoMemory>
     ensures ok { OnOk result (out.new.items ≡ out.old.items ++ (name ++ codes "(" ++ listed names.now ++ codes ")")) }
-    ensures kept { Keeps out.old.items out.new.items }
+    ensures kept { KeepsFronts out.old.items out.new.items }
 {
     put_all(out, &[name.bytes(), b"("])?;
     put_names(names, out)?;
@@ -40,7 +40,7 @@ pub(crate) fn put_tuple(name: Name, names: &[Name], out: &mut Vec<u8>) -> Result
 /// Appends a pattern, which without equations is `true`.
 pub(crate) fn put_pattern(pattern: &[Equal], out: &mut Vec<u8>) -> Result<(), NoMemory>
     ensures ok { OnOk result (out.new.items ≡ out.old.items ++ layout_of_pattern pattern.now) }
-    ensures kept { Keeps out.old.items out.new.items }
+    ensures kept { KeepsFronts out.old.items out.new.items }
 {
     if pattern.is_empty() {
         return put_all(out, &[b"true"]);
@@ -48,10 +48,9 @@ pub(crate) fn put_pattern(pattern: &[Equal], out: &mut Vec<u8>) -> Result<(), No
     put_equals(pattern, out)
 }
 
-#[tactic(auto, using(amdl_tree::proofs::AppendLemmas::keeps_same, crate::proofs::ListLemmas::led_step, crate::proofs::ListLemmas::led_listed))]
 fn put_equals(equals: &[Equal], out: &mut Vec<u8>) -> Result<(), NoMemory>
     ensures ok { OnOk result (out.new.items ≡ out.old.items ++ listed (map layout_of_equal equals.now)) }
-    ensures kept { Keeps out.old.items out.new.items }
+    ensures kept { KeepsFronts out.old.items out.new.items }
 {
     let mut before: &[u8] = b"";
     for equal in equals {
@@ -65,10 +64,9 @@ fn put_equals(equals: &[Equal], out: &mut Vec<u8>) -> Result<(), NoMemory>
 }
 
 /// Appends the changes of an `output` in brackets, and nothing where there are none.
-#[tactic(auto, using(amdl_tree::proofs::AppendLemmas::keeps_same, crate::proofs::ListLemmas::led_step, crate::proofs::ListLemmas::led_changes))]
 pub(crate) fn put_changes(changes: &[Equal], out: &mut Vec<u8>) -> Result<(), NoMemory>
     ensures ok { OnOk result (out.new.items ≡ out.old.items ++ layout_of_changes changes.now) }
-    ensures kept { Keeps out.old.items out.new.items }
+    ensures kept { KeepsFronts out.old.items out.new.items }
 {
     if changes.is_empty() {
         return Ok(());
@@ -85,10 +83,9 @@ pub(crate) fn put_changes(changes: &[Equal], out: &mut Vec<u8>) -> Result<(), No
 }
 
 /// Appends the tuples that a box starts with behind `with`, and nothing where there are none.
-#[tactic(auto, using(amdl_tree::proofs::AppendLemmas::keeps_same, crate::proofs::ListLemmas::led_step_twice, crate::proofs::ListLemmas::led_first))]
 pub(crate) fn put_first(first: &[Atom], out: &mut Vec<u8>) -> Result<(), NoMemory>
     ensures ok { OnOk result (out.new.items ≡ out.old.items ++ layout_of_first first.now) }
-    ensures kept { Keeps out.old.items out.new.items }
+    ensures kept { KeepsFronts out.old.items out.new.items }
 {
     let mut before: &[u8] = b" with ";
     for atom in first {
@@ -102,7 +99,7 @@ pub(crate) fn put_first(first: &[Atom], out: &mut Vec<u8>) -> Result<(), NoMemor
 /// Appends a text and an end of a link.
 pub(crate) fn put_end(before: &[u8], end: End, out: &mut Vec<u8>) -> Result<(), NoMemory>
     ensures ok { OnOk result (out.new.items ≡ out.old.items ++ (before.now ++ layout_of_end end)) }
-    ensures kept { Keeps out.old.items out.new.items }
+    ensures kept { KeepsFronts out.old.items out.new.items }
 {
     match end {
         End::Host(host) => put_all(out, &[before, host.bytes()]),

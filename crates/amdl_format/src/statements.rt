@@ -1,7 +1,8 @@
 ghost use Rattle.std.specs.Prelude.{◌≡◌, ◌++◌, [], ◌∷◌, ◌-◌, ◌≤◌, All, codes, map, OnOk};
 ghost use Rattle.std.specs.List.{flat_map};
-ghost use Rattle.amdl_tree.specs.Layout.{branch_of_alternative, indented, layout_of_atom, layout_of_changes, layout_of_guard, lines_of_choice, lines_of_statement};
-ghost use Rattle.amdl_tree.specs.Appends.{Keeps};
+ghost use Rattle.amdl_tree.specs.Layout.{branch_of_alternative, indented, layout_of_atom, layout_of_changes};
+ghost use Rattle.amdl_tree.specs.Layout.{layout_of_guard, lines_of_choice, lines_of_statement};
+ghost use Rattle.amdl_format.specs.Fronts.{KeepsFronts};
 ghost use Rattle.amdl_tree.specs.WellBuilt.{AlternativeFits, StmtFits};
 ghost use Rattle.amdl_format.specs.Lines.{branch_behind, branches_behind, line_at, text_at};
 
@@ -11,13 +12,13 @@ use crate::parts::{put_atom, put_changes};
 use amdl_tree::{Alternative, Atom, Equal, Guard, Name, NoMemory, Stmt};
 
 /// Appends statements one level further in. Linear in their parts, and for each line in its levels.
-#[tactic(auto, using(amdl_tree::proofs::AppendLemmas::keeps_same, crate::proofs::ListLemmas::pieces_step, crate::proofs::LineLemmas::text_of_block))]
 #[cycle(statements)]
 pub(crate) fn put_block(body: &[Stmt], level: usize, out: &mut Vec<u8>) -> Result<(), NoMemory>
     requires room { level ≤ 33 }
     requires fits { All (StmtFits (33 - level)) body.now }
-    ensures ok { OnOk result (out.new.items ≡ out.old.items ++ text_at level (indented (flat_map lines_of_statement body.now))) }
-    ensures kept { Keeps out.old.items out.new.items }
+    ensures ok { OnOk result
+        (out.new.items ≡ out.old.items ++ text_at level (indented (flat_map lines_of_statement body.now))) }
+    ensures kept { KeepsFronts out.old.items out.new.items }
 {
     let inner = level + 1;
     for stmt in body {
@@ -26,13 +27,12 @@ pub(crate) fn put_block(body: &[Stmt], level: usize, out: &mut Vec<u8>) -> Resul
     Ok(())
 }
 
-#[tactic(auto, using(crate::proofs::FormLemmas::insert_text, crate::proofs::FormLemmas::remove_text, crate::proofs::FormLemmas::abort_text, crate::proofs::FormLemmas::output_text, crate::proofs::FormLemmas::choose_text, crate::proofs::FormLemmas::pick_text))]
 #[cycle(statements)]
 fn put_statement(stmt: &Stmt, level: usize, out: &mut Vec<u8>) -> Result<(), NoMemory>
     requires room { level ≤ 34 }
     requires fits { StmtFits (34 - level) stmt.now }
     ensures ok { OnOk result (out.new.items ≡ out.old.items ++ text_at level (lines_of_statement stmt.now)) }
-    ensures kept { Keeps out.old.items out.new.items }
+    ensures kept { KeepsFronts out.old.items out.new.items }
 {
     match stmt {
         Stmt::Insert(atom) => put_change(b"insert ", atom, level, out),
@@ -44,7 +44,6 @@ fn put_statement(stmt: &Stmt, level: usize, out: &mut Vec<u8>) -> Result<(), NoM
     }
 }
 
-#[tactic(auto, using(crate::proofs::LineLemmas::text_of_framed))]
 #[cycle(statements)]
 fn put_pick(
     name: Name,
@@ -55,8 +54,12 @@ fn put_pick(
 ) -> Result<(), NoMemory>
     requires room { level ≤ 33 }
     requires fits { All (StmtFits (33 - level)) body.now }
-    ensures ok { OnOk result (out.new.items ≡ out.old.items ++ text_at level ((codes "pick " ++ name ++ codes " : " ++ kind ++ codes " in {") ∷ indented (flat_map lines_of_statement body.now) ++ codes "}" ∷ [])) }
-    ensures kept { Keeps out.old.items out.new.items }
+    ensures ok { OnOk result
+        (out.new.items ≡ out.old.items
+        ++ text_at level
+        ((codes "pick " ++ name ++ codes " : " ++ kind ++ codes " in {")
+        ∷ indented (flat_map lines_of_statement body.now) ++ codes "}" ∷ [])) }
+    ensures kept { KeepsFronts out.old.items out.new.items }
 {
     put_line(
         level,
@@ -69,8 +72,9 @@ fn put_pick(
 
 // The line of a statement that puts a tuple into its relation or takes it out.
 fn put_change(word: &[u8], atom: &Atom, level: usize, out: &mut Vec<u8>) -> Result<(), NoMemory>
-    ensures ok { OnOk result (out.new.items ≡ out.old.items ++ line_at level (word.now ++ layout_of_atom atom.now ++ codes ";")) }
-    ensures kept { Keeps out.old.items out.new.items }
+    ensures ok { OnOk result
+        (out.new.items ≡ out.old.items ++ line_at level (word.now ++ layout_of_atom atom.now ++ codes ";")) }
+    ensures kept { KeepsFronts out.old.items out.new.items }
 {
     put_blanks(level, out)?;
     put_all(out, &[word])?;
@@ -84,8 +88,10 @@ fn put_output(
     level: usize,
     out: &mut Vec<u8>,
 ) -> Result<(), NoMemory>
-    ensures ok { OnOk result (out.new.items ≡ out.old.items ++ line_at level (codes "output " ++ port ++ layout_of_changes changes.now ++ codes ";")) }
-    ensures kept { Keeps out.old.items out.new.items }
+    ensures ok { OnOk result
+        (out.new.items ≡ out.old.items
+        ++ line_at level (codes "output " ++ port ++ layout_of_changes changes.now ++ codes ";")) }
+    ensures kept { KeepsFronts out.old.items out.new.items }
 {
     put_blanks(level, out)?;
     put_all(out, &[b"output ", port.bytes()])?;
@@ -93,13 +99,14 @@ fn put_output(
     put_all(out, &[b";\n"])
 }
 
-#[tactic(auto, using(crate::proofs::LineLemmas::text_append))]
 #[cycle(statements)]
 fn put_choice(alternatives: &[Alternative], level: usize, out: &mut Vec<u8>) -> Result<(), NoMemory>
     requires room { level ≤ 33 }
     requires fits { All (AlternativeFits (33 - level)) alternatives.now }
-    ensures ok { OnOk result (out.new.items ≡ out.old.items ++ text_at level (lines_of_choice (map branch_of_alternative alternatives.now))) }
-    ensures kept { Keeps out.old.items out.new.items }
+    ensures ok { OnOk result
+        (out.new.items ≡ out.old.items
+        ++ text_at level (lines_of_choice (map branch_of_alternative alternatives.now))) }
+    ensures kept { KeepsFronts out.old.items out.new.items }
 {
     if alternatives.is_empty() {
         return put_line(level, &[b"if fi"], out);
@@ -116,8 +123,10 @@ fn put_alternatives(
 ) -> Result<(), NoMemory>
     requires room { level ≤ 33 }
     requires fits { All (AlternativeFits (33 - level)) alternatives.now }
-    ensures ok { OnOk result (out.new.items ≡ out.old.items ++ text_at level (branches_behind (codes "if ") (map branch_of_alternative alternatives.now))) }
-    ensures kept { Keeps out.old.items out.new.items }
+    ensures ok { OnOk result
+        (out.new.items ≡ out.old.items
+        ++ text_at level (branches_behind (codes "if ") (map branch_of_alternative alternatives.now))) }
+    ensures kept { KeepsFronts out.old.items out.new.items }
 {
     let mut before: &[u8] = b"if ";
     for alternative in alternatives {
@@ -137,8 +146,10 @@ fn put_alternative(
 ) -> Result<(), NoMemory>
     requires room { level ≤ 33 }
     requires fits { AlternativeFits (33 - level) alternative.now }
-    ensures ok { OnOk result (out.new.items ≡ out.old.items ++ text_at level (branch_behind before.now (branch_of_alternative alternative.now))) }
-    ensures kept { Keeps out.old.items out.new.items }
+    ensures ok { OnOk result
+        (out.new.items ≡ out.old.items
+        ++ text_at level (branch_behind before.now (branch_of_alternative alternative.now))) }
+    ensures kept { KeepsFronts out.old.items out.new.items }
 {
     put_asked(before, &alternative.guard, level, out)?;
     put_block(alternative.body.as_slice(), level, out)
@@ -146,8 +157,9 @@ fn put_alternative(
 
 // The line with the guard of an alternative.
 fn put_asked(before: &[u8], guard: &Guard, level: usize, out: &mut Vec<u8>) -> Result<(), NoMemory>
-    ensures ok { OnOk result (out.new.items ≡ out.old.items ++ line_at level (before.now ++ layout_of_guard guard.now ++ codes " -> {")) }
-    ensures kept { Keeps out.old.items out.new.items }
+    ensures ok { OnOk result
+        (out.new.items ≡ out.old.items ++ line_at level (before.now ++ layout_of_guard guard.now ++ codes " -> {")) }
+    ensures kept { KeepsFronts out.old.items out.new.items }
 {
     put_blanks(level, out)?;
     put_all(out, &[before])?;

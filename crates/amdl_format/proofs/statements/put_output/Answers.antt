@@ -16,8 +16,10 @@ returns-clause-ok c =
     let changes = layout_of_changes c.args.changes.now in
     then_text _ old c.put_changes.new.out.items c.put_all-2.new.out.items (head ++ changes) (codes ";\n") _
     (appended_after old c.put_all.new.out.items c.put_changes.new.out.items head changes
-    (appended_after old c.put_blanks.new.out.items c.put_all.new.out.items (blanks c.args.level) (codes "output " ++ (c.bytes.result.now ++ []))
+    (appended_after old c.put_blanks.new.out.items c.put_all.new.out.items (blanks c.args.level)
+    (codes "output " ++ (c.bytes.result.now ++ []))
     c.in_ok-put_blanks.ensures.ok c.in_ok-put_all.ensures.ok)
     c.in_ok-put_changes.ensures.ok)
-    (grouped (blanks c.args.level) (codes "output ") c.bytes.result.now c.args.port changes (codes ";") (codes "\n") c.bytes.ensures.spelled)
+    (grouped (blanks c.args.level) (codes "output ") c.bytes.result.now c.args.port changes (codes ";")
+    (codes "\n") c.bytes.ensures.spelled)
     c.put_all-2.ensures.ok
