@@ -1,4 +1,5 @@
-ghost use Rattle.std.specs.Prelude.{◌≡◌, ◌<◌, ◌≤◌, [], false, not, length, insert, remove, IsTrue, OnErr, IfOk, MatchResult};
+ghost use Rattle.std.specs.Prelude.{◌≡◌, ◌<◌, ◌≤◌, [], false, not, length, insert, remove, IsTrue, OnErr, IfOk};
+ghost use Rattle.std.specs.Prelude.{MatchResult};
 ghost use Rattle.box_contents.specs.Contents.{IsRising, holds_entry, with_entry, without_entry};
 
 use crate::entry::Entry;
@@ -104,9 +105,12 @@ pub fn is_among(entries: &[Entry], entry: Entry) -> bool
 fn place_of(entries: &[Entry], entry: Entry) -> Result<usize, usize>
     requires { IsRising entries.now }
     ensures within { MatchResult result (λ place. place < length entries.now) (λ place. place ≤ length entries.now) }
-    ensures held { MatchResult result (λ _. IsTrue (holds_entry entries.now entry)) (λ _. holds_entry entries.now entry ≡ false) }
-    ensures with { MatchResult result (λ _. with_entry entries.now entry ≡ entries.now) (λ place. with_entry entries.now entry ≡ insert entries.now place entry) }
-    ensures without { MatchResult result (λ place. without_entry entries.now entry ≡ remove entries.now place) (λ _. without_entry entries.now entry ≡ entries.now) }
+    ensures held { MatchResult result (λ _. IsTrue (holds_entry entries.now entry))
+        (λ _. holds_entry entries.now entry ≡ false) }
+    ensures with { MatchResult result (λ _. with_entry entries.now entry ≡ entries.now)
+        (λ place. with_entry entries.now entry ≡ insert entries.now place entry) }
+    ensures without { MatchResult result (λ place. without_entry entries.now entry ≡ remove entries.now place)
+        (λ _. without_entry entries.now entry ≡ entries.now) }
 {
     entries.binary_search(&entry)
 }

@@ -1,5 +1,6 @@
 //! Laws of contents, each the contract of a function that does nothing.
-ghost use Rattle.box_contents.specs.Laws.{HeldIsMember, WithKeepsRising, WithoutKeepsRising, HeldWith, HeldWithout, RisingIsSettled};
+ghost use Rattle.box_contents.specs.Laws.{HeldIsMember, WithKeepsRising, WithoutKeepsRising, HeldWith, HeldWithout};
+ghost use Rattle.box_contents.specs.Laws.{RisingIsSettled};
 
 /// A list holds an entry exactly where it is a member.
 pub fn held_is_member()
