@@ -1,4 +1,5 @@
--- Handler bodies as plain data, which has cases and induction: a block is a statement with the rest behind it, and a guard a
+-- Handler bodies as plain data, which has cases and induction: a block is a statement with the rest behind it, and a
+-- guard a
 -- formula.
 use Rattle.std.specs.Prelude.{◌≡◌, ℕ, Bool, true, false, List, [], ◌∷◌, map}
 use Rattle.box_handlers.specs.declared.act.Term.{Term}
@@ -117,12 +118,16 @@ pub record BodiesAreRead : Type 0 where
   pub none : body_of [] ≡ Stop
   pub insert : (query : Query) (rest : List Act) → body_of (act.Insert query ∷ rest) ≡ Writes query true (body_of rest)
   pub remove : (query : Query) (rest : List Act) → body_of (act.Remove query ∷ rest) ≡ Writes query false (body_of rest)
-  pub output : (port : ℕ) (changes : List Change) (rest : List Act) → body_of (act.Output port changes ∷ rest) ≡ Emit port changes (body_of rest)
+  pub output : (port : ℕ) (changes : List Change) (rest : List Act) →
+      body_of (act.Output port changes ∷ rest) ≡ Emit port changes (body_of rest)
   pub abort : (rest : List Act) → body_of (act.Abort ∷ rest) ≡ Halt (body_of rest)
-  pub choose : (branches : List Branch) (rest : List Act) → body_of (act.Choose branches ∷ rest) ≡ Fork (branches_of branches) (body_of rest)
-  pub pick : (values : ℕ) (body rest : List Act) → body_of (act.Pick values body ∷ rest) ≡ Each values (body_of body) (body_of rest)
+  pub choose : (branches : List Branch) (rest : List Act) →
+      body_of (act.Choose branches ∷ rest) ≡ Fork (branches_of branches) (body_of rest)
+  pub pick : (values : ℕ) (body rest : List Act) →
+      body_of (act.Pick values body ∷ rest) ≡ Each values (body_of body) (body_of rest)
   pub no_branch : branches_of [] ≡ NoBranch
-  pub branch : (branch : Branch) (more : List Branch) → branches_of (branch ∷ more) ≡ OneBranch (formula_of branch.guard) (body_of branch.body) (branches_of more)
+  pub branch : (branch : Branch) (more : List Branch) →
+      branches_of (branch ∷ more) ≡ OneBranch (formula_of branch.guard) (body_of branch.body) (branches_of more)
 
 -- how a probe is read, and the lists of a test
 pub record FormulasAreRead : Type 0 where

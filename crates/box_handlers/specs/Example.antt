@@ -26,7 +26,8 @@ asks probe body = Choose (record { guard = record { any = (probe ∷ []) ∷ [] 
 -- pick x of two { if has q(x) -> { pick y of two { if not has r(x, y) -> { } fi } } fi } if has q(value 1) -> { } fi
 abbrev pub nested : List Act
 nested =
-    Pick 2 (asks (Has (of_one 0 (Picked 0))) (Pick 2 (asks (Not (Has (of_two 1 (Picked 0) (Picked 1)))) [] ∷ []) ∷ []) ∷ [])
+    Pick 2 (asks (Has (of_one 0 (Picked 0))) (Pick 2 (asks (Not (Has (of_two 1 (Picked 0) (Picked 1)))) [] ∷ []) ∷ [])
+    ∷ [])
     ∷ asks (Has (of_one 0 (Value 1))) []
     ∷ []
 
@@ -34,7 +35,8 @@ nested =
 abbrev pub plain : List Act
 plain = asks (Has (of_two 1 (Field 0) (Field 1))) (Abort ∷ []) ∷ Insert (of_one 0 (Field 0)) ∷ []
 
--- the handlers go by their ports; a pick is expanded value by value, with its whole block; a query that was asked before comes once
+-- the handlers go by their ports; a pick is expanded value by value, with its whole block; a query that was asked
+-- before comes once
 abbrev pub NestedQueries : Type 0
 NestedQueries =
     queries_of (plain ∷ nested ∷ [])
@@ -43,14 +45,19 @@ NestedQueries =
     ∷ of_one 0 (Value 1) ∷ of_two 1 (Value 1) (Value 0) ∷ of_two 1 (Value 1) (Value 1)
     ∷ []
 
--- an `if` and a `pick` are statements beside those within them, a denial is a literal beside what it denies; a choice of one block has a
--- path more, so the inner block has 2 paths, its pick 4, the `if` around it 5, the outer pick 10, and the last `if` doubles them
+-- an `if` and a `pick` are statements beside those within them, a denial is a literal beside what it denies; a choice
+-- of one block has a
+-- path more, so the inner block has 2 paths, its pick 4, the `if` around it 5, the outer pick 10, and the last `if`
+-- doubles them
 pub record NestedSizes : Type 0 where
   pub statements : statements_of (body_of nested) ≡ 5
   pub literals : literals_of (body_of nested) ≡ 4
   pub paths : paths_of (body_of nested) ≡ 20
 
--- the first argument of a tuple is the most significant one, and each new value of a field is read from the packet as it came
+-- the first argument of a tuple is the most significant one, and each new value of a field is read from the packet as
+-- it came
 pub record TuplesByHand : Type 0 where
-  pub tuple : tuple_of ((2 ∷ []) ∷ (2 ∷ 3 ∷ []) ∷ []) (1 ∷ 2 ∷ []) (2 ∷ []) (of_two 1 (Field 0) (Picked 0)) ≡ record { relation = 1; tuple = 5 }
-  pub swapped : fields_after (1 ∷ 2 ∷ []) [] (record { field = 0; to = Field 1 } ∷ record { field = 1; to = Field 0 } ∷ []) ≡ 2 ∷ 1 ∷ []
+  pub tuple : tuple_of ((2 ∷ []) ∷ (2 ∷ 3 ∷ []) ∷ []) (1 ∷ 2 ∷ []) (2 ∷ []) (of_two 1 (Field 0) (Picked 0))
+      ≡ record { relation = 1; tuple = 5 }
+  pub swapped : fields_after (1 ∷ 2 ∷ []) []
+      (record { field = 0; to = Field 1 } ∷ record { field = 1; to = Field 0 } ∷ []) ≡ 2 ∷ 1 ∷ []

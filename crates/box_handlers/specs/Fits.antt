@@ -1,11 +1,13 @@
--- When a handler fits the network around it: its numbers are in range, and its terms have the types that their places ask.
+-- When a handler fits the network around it: its numbers are in range, and its terms have the types that their places
+-- ask.
 use Rattle.std.specs.Prelude.{◌≡◌, ◌≢◌, ℕ, ◌<◌, List, [], ◌∷◌, ◌++◌, Some, slice_get}
 use Rattle.std.specs.List.{AllPairs}
 use Rattle.box_handlers.specs.declared.act.Term.{Term}
 use Rattle.box_handlers.specs.declared.act.Term.TheVariants.{Field, Value, Picked}
 use Rattle.box_handlers.specs.declared.act.Change.{Change}
 use Rattle.box_handlers.specs.declared.act.Query.{Query}
-use Rattle.box_handlers.specs.Body.{Formula, Holds, Alike, Unlike, Denied, Grouped, Both, Either, Body, Stop, Writes, Emit, Halt, Fork, Each, Branches, NoBranch, OneBranch}
+use Rattle.box_handlers.specs.Body.{Formula, Holds, Alike, Unlike, Denied, Grouped, Both, Either, Body, Stop, Writes}
+use Rattle.box_handlers.specs.Body.{Emit, Halt, Fork, Each, Branches, NoBranch, OneBranch}
 
 -- what a handler sees of the network and of its class
 pub record Surroundings : Type 0 where
@@ -22,12 +24,14 @@ pub record Surroundings : Type 0 where
 abbrev pub TermFits : Surroundings → List ℕ → ℕ → Term → Type 0
 TermFits around picks kind (Field k) = slice_get around.fields k ≡ Some kind
 TermFits around picks kind (Value x) = (size : ℕ) × (slice_get around.sizes kind ≡ Some size) × (x < size)
-TermFits around picks kind (Picked i) = (size : ℕ) × (slice_get around.sizes kind ≡ Some size) × (slice_get picks i ≡ Some size)
+TermFits around picks kind (Picked i) =
+    (size : ℕ) × (slice_get around.sizes kind ≡ Some size) × (slice_get picks i ≡ Some size)
 
 -- as many terms as types, each of its type
 abbrev pub TermsFit : Surroundings → List ℕ → List ℕ → List Term → Type 0
 TermsFit around picks [] [] = Unit {0}
-TermsFit around picks (kind ∷ kinds) (term ∷ terms) = TermFits around picks kind term × TermsFit around picks kinds terms
+TermsFit around picks (kind ∷ kinds) (term ∷ terms) =
+    TermFits around picks kind term × TermsFit around picks kinds terms
 TermsFit around picks _ _ = ⊥
 
 -- the arguments of a query are those that its relation asks
@@ -58,18 +62,21 @@ FormulaFits around picks (Both one two) = FormulaFits around picks one × Formul
 FormulaFits around picks (Either one two) = FormulaFits around picks one × FormulaFits around picks two
 FormulaFits around picks _ = Unit {0}
 
--- a block fits where the picks around it have so many values, the outermost first: no output changes a field twice, and each
+-- a block fits where the picks around it have so many values, the outermost first: no output changes a field twice, and
+-- each
 -- pick has as many values as some type
 abbrev mutual
   pub Fits : Surroundings → Body → List ℕ → Type 0
   Fits around Stop picks = Unit {0}
   Fits around (Writes query add rest) picks = QueryFits around picks query × Fits around rest picks
   Fits around (Emit port changes rest) picks =
-      (port < around.ports) × ChangesFit around picks changes × AllPairs (λ one two. one.field ≢ two.field) changes × Fits around rest picks
+      (port < around.ports) × ChangesFit around picks changes × AllPairs (λ one two. one.field ≢ two.field) changes
+      × Fits around rest picks
   Fits around (Halt rest) picks = Fits around rest picks
   Fits around (Fork branches rest) picks = BranchesFit around branches picks × Fits around rest picks
   Fits around (Each values body rest) picks =
-      ((kind : ℕ) × (slice_get around.sizes kind ≡ Some values)) × Fits around body (picks ++ values ∷ []) × Fits around rest picks
+      ((kind : ℕ) × (slice_get around.sizes kind ≡ Some values)) × Fits around body (picks ++ values ∷ [])
+      × Fits around rest picks
 
   pub BranchesFit : Surroundings → Branches → List ℕ → Type 0
   BranchesFit around NoBranch picks = Unit {0}

@@ -1,12 +1,14 @@
 -- The queries of a class: what its handlers ask, once the picks are expanded.
-use Rattle.std.specs.Prelude.{◌≡◌, ℕ, ◌<◌, ◌⊎◌, ◌&&◌, Bool, false, not, List, [], ◌∷◌, ◌++◌, Option, Some, None, nat_eq, map, slice_get}
+use Rattle.std.specs.Prelude.{◌≡◌, ℕ, ◌<◌, ◌⊎◌, ◌&&◌, Bool, false, not, List, [], ◌∷◌, ◌++◌, Option, Some, None, nat_eq}
+use Rattle.std.specs.Prelude.{map, slice_get}
 use Rattle.std.specs.List.{All, filter, flat_map, range_with_len}
 use Rattle.std.specs.Cmp.Lexicographic.{pointwise}
 use Rattle.box_handlers.specs.declared.act.Term.{Term}
 use Rattle.box_handlers.specs.declared.act.Term.TheVariants.{Field, Value, Picked}
 use Rattle.box_handlers.specs.declared.act.Query.{Query}
 use Rattle.box_handlers.specs.declared.act.Act.{Act}
-use Rattle.box_handlers.specs.Body.{Formula, Holds, Denied, Grouped, Both, Either, Body, Stop, Writes, Emit, Halt, Fork, Each, Branches, NoBranch, OneBranch, body_of}
+use Rattle.box_handlers.specs.Body.{Formula, Holds, Denied, Grouped, Both, Either, Body, Stop, Writes, Emit, Halt, Fork}
+use Rattle.box_handlers.specs.Body.{Each, Branches, NoBranch, OneBranch, body_of}
 
 -- a term with the value of its pick in place of the pick, where that pick is open
 abbrev pub filled_by : Option ℕ → Term → Term
@@ -30,7 +32,8 @@ asked_by_formula picked (Both one two) = asked_by_formula picked one ++ asked_by
 asked_by_formula picked (Either one two) = asked_by_formula picked one ++ asked_by_formula picked two
 asked_by_formula picked _ = []
 
--- what a block asks, in the order of the text, a pick's block once for each value; and what the branches of a choice ask, guard
+-- what a block asks, in the order of the text, a pick's block once for each value; and what the branches of a choice
+-- ask, guard
 -- before block
 abbrev mutual
   pub asked_by : Body → List ℕ → List Query
@@ -75,7 +78,8 @@ FormulaAsks (Both one two) query = FormulaAsks one query ⊎ FormulaAsks two que
 FormulaAsks (Either one two) query = FormulaAsks one query ⊎ FormulaAsks two query
 FormulaAsks _ query = ⊥
 
--- some guard within the block asks the query while these values are picked, where `picked` are those of the picks around the
+-- some guard within the block asks the query while these values are picked, where `picked` are those of the picks
+-- around the
 -- block
 abbrev mutual
   pub Asks : Body → List ℕ → List ℕ → Query → Type 0
@@ -83,14 +87,16 @@ abbrev mutual
   Asks (Writes written add rest) picked opened query = Asks rest picked opened query
   Asks (Emit port changes rest) picked opened query = Asks rest picked opened query
   Asks (Halt rest) picked opened query = Asks rest picked opened query
-  Asks (Fork branches rest) picked opened query = BranchesAsk branches picked opened query ⊎ Asks rest picked opened query
+  Asks (Fork branches rest) picked opened query =
+      BranchesAsk branches picked opened query ⊎ Asks rest picked opened query
   Asks (Each values body rest) picked opened query =
       ((value : ℕ) × (value < values) × Asks body (picked ++ value ∷ []) opened query) ⊎ Asks rest picked opened query
 
   pub BranchesAsk : Branches → List ℕ → List ℕ → Query → Type 0
   BranchesAsk NoBranch picked opened query = ⊥
   BranchesAsk (OneBranch guard body more) picked opened query =
-      ((picked ≡ opened) × FormulaAsks guard query) ⊎ (Asks body picked opened query ⊎ BranchesAsk more picked opened query)
+      ((picked ≡ opened) × FormulaAsks guard query)
+      ⊎ (Asks body picked opened query ⊎ BranchesAsk more picked opened query)
 
 -- the term is no pick
 abbrev pub IsNoPick : Term → Type 0

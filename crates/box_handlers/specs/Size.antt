@@ -1,7 +1,8 @@
 -- How large handlers are: their statements, the literals of their guards, and their paths. Picks aren't expanded.
 use Rattle.std.specs.Prelude.{ℕ, ◌+◌, ◌*◌, List, sum_by}
 use Rattle.box_handlers.specs.declared.act.Act.{Act}
-use Rattle.box_handlers.specs.Body.{Formula, Truth, Holds, Alike, Unlike, Denied, Grouped, Both, Every, Either, Neither, Body, Stop, Writes, Emit, Halt, Fork, Each, Branches, NoBranch, OneBranch, body_of}
+use Rattle.box_handlers.specs.Body.{Formula, Truth, Holds, Alike, Unlike, Denied, Grouped, Both, Every, Either, Neither}
+use Rattle.box_handlers.specs.Body.{Body, Stop, Writes, Emit, Halt, Fork, Each, Branches, NoBranch, OneBranch, body_of}
 
 -- the literals of a guard; each denial and each group counts as one besides what it holds
 abbrev pub literals_in : Formula → ℕ
@@ -44,7 +45,8 @@ abbrev mutual
   statements_of_branches NoBranch = 0
   statements_of_branches (OneBranch guard body more) = statements_of body + statements_of_branches more
 
--- the paths of a block: the product of those of its statements. A choice has those of its blocks and one for no block at all, a
+-- the paths of a block: the product of those of its statements. A choice has those of its blocks and one for no block
+-- at all, a
 -- pick has so many as its block for each value, and what stands behind an abort counts too
 abbrev mutual
   pub paths_of : Body → ℕ

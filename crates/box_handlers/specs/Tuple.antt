@@ -1,4 +1,5 @@
--- What a term, a query and a change come to at a packet, of which the value of each field is known, and the values of the
+-- What a term, a query and a change come to at a packet, of which the value of each field is known, and the values of
+-- the
 -- enclosing picks, the outermost first. A number that a body names means something where the body fits (Fits.antt).
 use Rattle.std.specs.Prelude.{ℕ, ◌+◌, ◌*◌, List, [], ◌∷◌, map, fold, slice_index, slice_index_or, slice_set}
 use Rattle.box_contents.specs.declared.entry.Entry.{Entry}

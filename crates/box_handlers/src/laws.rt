@@ -1,7 +1,8 @@
 //! Laws over the definitions, each the contract of a function that does nothing.
 ghost use Rattle.box_handlers.specs.Body.{BodiesAreRead, FormulasAreRead};
 ghost use Rattle.box_handlers.specs.Example.{NestedQueries, NestedSizes, TuplesByHand};
-ghost use Rattle.box_handlers.specs.Laws.{SameQueryIsEqual, QueriesDiffer, QueriesHoldAllAsked, FilledHasSameTuple, QueriesNameNoPick, QueriesFit};
+ghost use Rattle.box_handlers.specs.Laws.{SameQueryIsEqual, QueriesDiffer, QueriesHoldAllAsked, FilledHasSameTuple};
+ghost use Rattle.box_handlers.specs.Laws.{QueriesNameNoPick, QueriesFit};
 
 /// How each statement, each branch and the end of a block are read.
 pub fn bodies_are_read()

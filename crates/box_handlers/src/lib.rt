@@ -1,5 +1,5 @@
-//! Handlers of boxes with numbers in place of names, and their one reading as plain data: a block is a statement with the
-//! rest behind it, and a guard a formula. What a handler asks, and how large it is, go by cases on that reading.
+//! Handlers of boxes with numbers in place of names, and their one reading as plain data: a block is a statement with
+//! the rest behind it, and a guard a formula. What a handler asks, and how large it is, go by cases on that reading.
 #![tactic(auto)]
 
 mod act;
