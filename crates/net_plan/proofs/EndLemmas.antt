@@ -1,5 +1,6 @@
 -- The ends of a plan by their numbers.
-use Rattle.std.proofs.Common.{◌≡◌, ℕ, zero, suc, ◌+◌, ◌-◌, ◌<◌, List, [], ◌∷◌, ◌++◌, Some, map, length, take, slice_get, slice_index_or, sum_by, refl, sym, ap, subst, ◌∙◌, ◌⊎◌, inl, inr, ◌↔◌, zero-add, arith}
+use Rattle.std.proofs.Common.{◌≡◌, ℕ, zero, suc, ◌+◌, ◌-◌, ◌<◌, List, [], ◌∷◌, ◌++◌, Some, map, length, take, slice_get}
+use Rattle.std.proofs.Common.{slice_index_or, sum_by, refl, sym, ap, subst, ◌∙◌, ◌⊎◌, inl, inr, ◌↔◌, zero-add, arith}
 use Rattle.std.specs.List.{range_with_len}
 use Rattle.std.specs.Option.{option_map}
 use Rattle.std.proofs.lemmas.Bool.{cases_lt}
@@ -43,13 +44,17 @@ module _ (plan : Plan) where
   length-box : (number : ℕ) (box : BoxPlan) → length (box_places plan number box) ≡ ports_of plan box
   length-box number box = length-map-range_with_len (Port number) 0 (ports_of plan box)
 
-  pub length-ports : (number : ℕ) (boxes : List BoxPlan) → length (port_places plan number boxes) ≡ sum_by (ports_of plan) boxes
+  pub length-ports : (number : ℕ) (boxes : List BoxPlan) →
+      length (port_places plan number boxes) ≡ sum_by (ports_of plan) boxes
   length-ports number [] = refl
   length-ports number (box ∷ boxes) =
-      let rest : length (port_places plan (number + 1) boxes) ≡ sum_by (ports_of plan) boxes = length-ports (number + 1) boxes in
-      let all : length (box_places plan number box ++ port_places plan (number + 1) boxes) ≡ length (box_places plan number box) + length (port_places plan (number + 1) boxes) =
+      let rest : length (port_places plan (number + 1) boxes) ≡ sum_by (ports_of plan) boxes =
+      length-ports (number + 1) boxes in
+      let all : length (box_places plan number box ++ port_places plan (number + 1) boxes)
+      ≡ length (box_places plan number box) + length (port_places plan (number + 1) boxes) =
       length-append (box_places plan number box) (port_places plan (number + 1) boxes) in
-      let sum : sum_by (ports_of plan) (box ∷ boxes) ≡ ports_of plan box + sum_by (ports_of plan) boxes = sum_by-cons (ports_of plan) box boxes in
+      let sum : sum_by (ports_of plan) (box ∷ boxes) ≡ ports_of plan box + sum_by (ports_of plan) boxes =
+      sum_by-cons (ports_of plan) box boxes in
       omega (arith, rest, all, sum, length-box number box)
 
   length-hosts : length (host_places plan) ≡ length plan.hosts
@@ -57,20 +62,25 @@ module _ (plan : Plan) where
 
   pub ends_counted : ends_of plan ≡ length plan.hosts + sum_by (ports_of plan) plan.boxes
   ends_counted =
-      let all : ends_of plan ≡ length (host_places plan) + length (port_places plan 0 plan.boxes) = length-append (host_places plan) (port_places plan 0 plan.boxes) in
+      let all : ends_of plan ≡ length (host_places plan) + length (port_places plan 0 plan.boxes) =
+      length-append (host_places plan) (port_places plan 0 plan.boxes) in
       omega (arith, all, length-hosts, length-ports 0 plan.boxes)
 
-  port_there : (number : ℕ) (boxes : List BoxPlan) (box port : ℕ) → box < length boxes → port < ports_of plan (at boxes box) →
+  port_there : (number : ℕ) (boxes : List BoxPlan) (box port : ℕ) → box < length boxes →
+      port < ports_of plan (at boxes box) →
       slice_get (port_places plan number boxes) (ports_before boxes box + port) ≡ Some (Port (number + box) port)
   port_there number [] box port less in' = absurd (omega arith)
   port_there number (first ∷ boxes) zero port less in' =
-      get_in_front (box_places plan number first) (port_places plan (number + 1) boxes) (0 + port) (omega (arith, length-box number first))
+      get_in_front (box_places plan number first) (port_places plan (number + 1) boxes) (0 + port)
+      (omega (arith, length-box number first))
       ∙ ap (slice_get (box_places plan number first)) (zero-add port)
       ∙ get_counted (Port number) (ports_of plan first) port in'
       ∙ ap (λ (b : ℕ). Some (Port b port)) (let same : number ≡ number + 0 = omega arith in same)
   port_there number (first ∷ boxes) (suc box) port less in' =
-      let sum : ports_before (first ∷ boxes) (suc box) ≡ ports_of plan first + ports_before boxes box = sum_by-cons (ports_of plan) first (take box boxes) in
-      get_behind (box_places plan number first) (port_places plan (number + 1) boxes) (ports_before boxes box + port) (ports_before (first ∷ boxes) (suc box) + port)
+      let sum : ports_before (first ∷ boxes) (suc box) ≡ ports_of plan first + ports_before boxes box =
+      sum_by-cons (ports_of plan) first (take box boxes) in
+      get_behind (box_places plan number first) (port_places plan (number + 1) boxes) (ports_before boxes box + port)
+      (ports_before (first ∷ boxes) (suc box) + port)
       (omega (arith, sum, length-box number first))
       ∙ port_there (number + 1) boxes box port (omega arith) in'
       ∙ ap (λ (b : ℕ). Some (Port b port)) (let same : number + 1 + box ≡ number + suc box = omega arith in same)
@@ -87,7 +97,8 @@ module _ (plan : Plan) where
   inside : {X : Type 0} (x y : X) → Some x ≡ Some y → x ≡ y
   inside x y e = cc
 
-  port_found : (number : ℕ) (boxes : List BoxPlan) (end : ℕ) (place : Place) → slice_get (port_places plan number boxes) end ≡ Some place → IsPortOf number boxes end place
+  port_found : (number : ℕ) (boxes : List BoxPlan) (end : ℕ) (place : Place) →
+      slice_get (port_places plan number boxes) end ≡ Some place → IsPortOf number boxes end place
   port_found number [] end place e = absurd (cc)
   port_found number (first ∷ boxes) end place e =
       elim (cases_lt end (ports_of plan first)) [
@@ -99,7 +110,8 @@ module _ (plan : Plan) where
           end_is = sym (zero-add end);
           place_is =
               inside place (Port number end)
-              (sym e ∙ get_in_front (box_places plan number first) (port_places plan (number + 1) boxes) end (omega (arith, length-box number first))
+              (sym e ∙ get_in_front (box_places plan number first) (port_places plan (number + 1) boxes) end
+              (omega (arith, length-box number first))
               ∙ get_counted (Port number) (ports_of plan first) end less)
               ∙ ap (λ (b : ℕ). Port b end) (let same : number ≡ number + 0 = omega arith in same);
         }
@@ -107,41 +119,59 @@ module _ (plan : Plan) where
             let left : ℕ = end - ports_of plan first in
             let found : IsPortOf (number + 1) boxes left place =
             port_found (number + 1) boxes left place
-            (sym (get_behind (box_places plan number first) (port_places plan (number + 1) boxes) left end (omega (arith, length-box number first))) ∙ e) in
-            let sum : ports_before (first ∷ boxes) (suc found.box) ≡ ports_of plan first + ports_before boxes found.box = sum_by-cons (ports_of plan) first (take found.box boxes) in
+            (sym (get_behind (box_places plan number first) (port_places plan (number + 1) boxes) left end
+            (omega (arith, length-box number first))) ∙ e) in
+            let sum : ports_before (first ∷ boxes) (suc found.box)
+            ≡ ports_of plan first + ports_before boxes found.box =
+            sum_by-cons (ports_of plan) first (take found.box boxes) in
             record {
               box = suc found.box;
               port = found.port;
-              box_in_range = (let less : suc found.box < suc (length boxes) = omega (arith, found.box_in_range) in less);
+              box_in_range =
+                  (let less : suc found.box < suc (length boxes) = omega (arith, found.box_in_range) in less);
               port_in_range = found.port_in_range;
-              end_is = (let is : left ≡ ports_before boxes found.box + found.port = found.end_is in omega (arith, sum, is));
-              place_is = found.place_is ∙ ap (λ (b : ℕ). Port b found.port) (let same : number + 1 + found.box ≡ number + suc found.box = omega arith in same);
+              end_is = (let is : left
+                  ≡ ports_before boxes found.box + found.port = found.end_is in omega (arith, sum, is));
+              place_is =
+                  found.place_is
+                  ∙ ap (λ (b : ℕ). Port b found.port)
+                  (let same : number + 1 + found.box ≡ number + suc found.box = omega arith in same);
             }
       ]
 
   -- the place of an end is that of the host of its number, or that of a port
   end_cases : (end : ℕ) (place : Place) → IsEndAt plan end place →
-      ((end < length plan.hosts) × (place ≡ Host end)) ⊎ ((left : ℕ) × (end ≡ length plan.hosts + left) × IsPortOf 0 plan.boxes left place)
+      ((end < length plan.hosts) × (place ≡ Host end))
+      ⊎ ((left : ℕ) × (end ≡ length plan.hosts + left) × IsPortOf 0 plan.boxes left place)
   end_cases end place there =
       elim (cases_lt end (length plan.hosts)) [
         | inl less ↦ inl (
           less,
-          inside place (Host end) (sym there ∙ get_in_front (host_places plan) (port_places plan 0 plan.boxes) end (omega (arith, length-hosts)) ∙ get_counted Host (length plan.hosts) end less),
+          inside place (Host end)
+              (sym there
+              ∙ get_in_front (host_places plan) (port_places plan 0 plan.boxes) end (omega (arith, length-hosts))
+              ∙ get_counted Host (length plan.hosts) end less),
         )
         | inr more ↦
             let left : ℕ = end - length plan.hosts in
             inr (
               left,
               omega arith,
-              port_found 0 plan.boxes left place (sym (get_behind (host_places plan) (port_places plan 0 plan.boxes) left end (omega (arith, length-hosts))) ∙ there),
+              port_found 0 plan.boxes left place
+                  (sym
+                  (get_behind (host_places plan) (port_places plan 0 plan.boxes) left end (omega (arith, length-hosts)))
+                  ∙ there),
             )
       ]
 
   pub host_ends : (end host : ℕ) → IsEndAt plan end (Host host) ↔ ((host < length plan.hosts) × (end ≡ host))
   host_ends end host = (
     λ there. elim (end_cases end (Host host) there) [
-      | inl at_host ↦ let same : host ≡ end = (let place : Host host ≡ Host end = at_host.1 in cc) in (subst (λ (h : ℕ). h < length plan.hosts) (sym same) at_host.0, sym same)
-      | inr at_port ↦ absurd (let place : Host host ≡ Port (0 + at_port.2.box) at_port.2.port = at_port.2.place_is in cc)
+      | inl at_host ↦ let same : host ≡ end =
+          (let place : Host host ≡ Host end = at_host.1 in cc) in
+          (subst (λ (h : ℕ). h < length plan.hosts) (sym same) at_host.0, sym same)
+      | inr at_port ↦ absurd
+          (let place : Host host ≡ Port (0 + at_port.2.box) at_port.2.port = at_port.2.place_is in cc)
     ],
     λ is.
         ap (slice_get (places_of plan)) is.1
@@ -150,7 +180,8 @@ module _ (plan : Plan) where
   )
 
   pub port_ends : (end box port : ℕ) →
-      IsEndAt plan end (Port box port) ↔ ((box < boxes_of plan) × (port < ports_of plan (box_at plan box)) × (end ≡ first_end plan box + port))
+      IsEndAt plan end (Port box port) ↔
+      ((box < boxes_of plan) × (port < ports_of plan (box_at plan box)) × (end ≡ first_end plan box + port))
   port_ends end box port = (
     λ there. elim (end_cases end (Port box port) there) [
       | inl at_host ↦ absurd (let place : Port box port ≡ Host end = at_host.1 in cc)
@@ -160,9 +191,12 @@ module _ (plan : Plan) where
           let same_box : found.box ≡ box = (let turned : box ≡ 0 + found.box = cc in omega arith) in
           let same_port : found.port ≡ port = cc in (
             subst (λ (b : ℕ). b < boxes_of plan) same_box found.box_in_range,
-            subst (λ (b : ℕ). port < ports_of plan (box_at plan b)) same_box (subst (λ (p : ℕ). p < ports_of plan (box_at plan found.box)) same_port found.port_in_range),
+            subst (λ (b : ℕ). port < ports_of plan (box_at plan b)) same_box
+                (subst (λ (p : ℕ). p < ports_of plan (box_at plan found.box)) same_port found.port_in_range),
             subst (λ (b : ℕ). end ≡ first_end plan b + port) same_box
-                (let is : at_port.0 ≡ ports_before plan.boxes found.box + found.port = found.end_is in omega (arith, is, at_port.1, same_port)),
+                (let is : at_port.0
+                ≡ ports_before plan.boxes found.box + found.port =
+                found.end_is in omega (arith, is, at_port.1, same_port)),
           )
     ],
     λ is.

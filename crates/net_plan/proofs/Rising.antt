@@ -1,7 +1,9 @@
 -- A rising list is settled by its members.
-use Rattle.std.proofs.Common.{◌≡◌, ℕ, suc, zero, ◌<◌, List, [], ◌∷◌, length, refl, sym, ap, subst, ◌∙◌, ◌⊎◌, inl, inr, ◌↔◌, arith}
+use Rattle.std.proofs.Common.{◌≡◌, ℕ, suc, zero, ◌<◌, List, [], ◌∷◌, length, refl, sym, ap, subst, ◌∙◌, ◌⊎◌, inl, inr}
+use Rattle.std.proofs.Common.{◌↔◌, arith}
 use Rattle.std.specs.List.{All, AllPairs, Contains}
-use Rattle.std.proofs.lemmas.List.Elements.{All-contains, Contains-append_left, Contains-append_right, Contains-append_cases, Contains-push}
+use Rattle.std.proofs.lemmas.List.Elements.{All-contains, Contains-append_left, Contains-append_right}
+use Rattle.std.proofs.lemmas.List.Elements.{Contains-append_cases, Contains-push}
 use Rattle.net_plan.specs.declared.fact.Fact.{Fact}
 use Rattle.net_plan.specs.Fact.{numbers_of, IsBelow, Precedes, IsRising}
 
@@ -44,10 +46,12 @@ module _ {X : Type 0} where
   none_contained y there = let less : there.0 < 0 = there.1 in absurd (omega arith)
 
   pub pairs_head : (R : X → X → Type 0) (x : X) (xs : List X) → AllPairs R (x ∷ xs) → All (R x) xs
-  pairs_head R x xs pairs k d in' = pairs 0 (suc k) d (omega arith) (let less : suc k < suc (length xs) = omega arith in less)
+  pairs_head R x xs pairs k d in' =
+      pairs 0 (suc k) d (omega arith) (let less : suc k < suc (length xs) = omega arith in less)
 
   pub pairs_tail : (R : X → X → Type 0) (x : X) (xs : List X) → AllPairs R (x ∷ xs) → AllPairs R xs
-  pairs_tail R x xs pairs i j d less in' = pairs (suc i) (suc j) d (omega arith) (let more : suc j < suc (length xs) = omega arith in more)
+  pairs_tail R x xs pairs i j d less in' =
+      pairs (suc i) (suc j) d (omega arith) (let more : suc j < suc (length xs) = omega arith in more)
 
 -- the members are the same
 abbrev pub Same : List Fact → List Fact → Type 0
@@ -67,10 +71,12 @@ heads_meet x y xs ys one two same =
       ]
     ]
 
-tail_of_same : (x : Fact) (xs ys : List Fact) → IsRising (x ∷ xs) → Same (x ∷ xs) (x ∷ ys) → (fact : Fact) → Contains xs fact → Contains ys fact
+tail_of_same : (x : Fact) (xs ys : List Fact) → IsRising (x ∷ xs) → Same (x ∷ xs) (x ∷ ys) → (fact : Fact) →
+    Contains xs fact → Contains ys fact
 tail_of_same x xs ys rising same fact there =
     elim (contained_cases x fact ys ((same fact).0 (tail_contained x fact xs there))) [
-      | inl meet ↦ absurd (not_before_itself fact (subst (λ (f : Fact). Precedes f fact) meet (behind_head x fact xs rising there)))
+      | inl meet ↦ absurd
+          (not_before_itself fact (subst (λ (f : Fact). Precedes f fact) meet (behind_head x fact xs rising there)))
       | inr later ↦ later
     ]
 
@@ -86,5 +92,8 @@ rising_is_unique (x ∷ xs) (y ∷ ys) one two same =
     let two' : IsRising (x ∷ ys) = subst (λ (f : Fact). IsRising (f ∷ ys)) (sym meet) two in
     let same' : Same (x ∷ xs) (x ∷ ys) = subst (λ (f : Fact). Same (x ∷ xs) (f ∷ ys)) (sym meet) same in
     let rest : xs ≡ ys = rising_is_unique xs ys (pairs_tail Precedes x xs one) (pairs_tail Precedes y ys two)
-    (λ fact. (tail_of_same x xs ys one same' fact, tail_of_same x ys xs two' (same_back (x ∷ xs) (x ∷ ys) same') fact)) in
+    (λ fact. (
+      tail_of_same x xs ys one same' fact,
+      tail_of_same x ys xs two' (same_back (x ∷ xs) (x ∷ ys) same') fact,
+    )) in
     ap (λ (f : Fact). f ∷ xs) meet ∙ ap (λ (rest : List Fact). y ∷ rest) rest

@@ -9,7 +9,8 @@ use Rattle.net_plan.specs.Ends.{ends_of}
 -- the numbers of the fact are in range
 abbrev pub IsInRange : Plan → Fact → Type 0
 IsInRange plan (Out end packet) = (end < ends_of plan) × (packet < packets_of plan)
-IsInRange plan (State box packet mask) = (box < boxes_of plan) × (packet < packets_of plan) × (mask < masks_of plan (box_at plan box))
+IsInRange plan (State box packet mask) =
+    (box < boxes_of plan) × (packet < packets_of plan) × (mask < masks_of plan (box_at plan box))
 IsInRange plan (Abort box packet) = (box < boxes_of plan) × (packet < packets_of plan)
 
 -- how many masks the boxes before this one have
@@ -20,7 +21,8 @@ masks_before plan box = sum_by (masks_of plan) (take box plan.boxes)
 abbrev pub all_masks : Plan → ℕ
 all_masks plan = sum_by (masks_of plan) plan.boxes
 
--- the number of a fact: `packets` cells for each end, for each mask of each box, and for each box; those of one box and one
+-- the number of a fact: `packets` cells for each end, for each mask of each box, and for each box; those of one box and
+-- one
 -- packet stand together
 abbrev pub cell_of : Plan → Fact → ℕ
 cell_of plan (Out end packet) = end * packets_of plan + packet

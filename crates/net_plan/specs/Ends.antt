@@ -1,5 +1,6 @@
 -- The ends of a plan, and what the links join.
-use Rattle.std.specs.Prelude.{◌≡◌, ℕ, ◌+◌, ◌⊎◌, List, [], ◌∷◌, ◌++◌, Option, Some, None, ◌==◌, if◌then◌else◌, length, map, slice_get}
+use Rattle.std.specs.Prelude.{◌≡◌, ℕ, ◌+◌, ◌⊎◌, List, [], ◌∷◌, ◌++◌, Option, Some, None, ◌==◌, if◌then◌else◌, length}
+use Rattle.std.specs.Prelude.{map, slice_get}
 use Rattle.std.specs.List.{Contains, range_with_len}
 use Rattle.std.specs.Option.{option_or}
 use Rattle.net_plan.specs.declared.plan.Plan.{Plan}
@@ -36,7 +37,8 @@ IsEndAt plan end place = slice_get (places_of plan) end ≡ Some place
 -- a host's place has the name of the host alone, and a port's place that of its box and its own
 abbrev pub IsPlaceNamed : Plan → List ℕ → Option (List ℕ) → Place → Type 0
 IsPlaceNamed plan name None (Host host) = (host_at plan host).name ≡ name
-IsPlaceNamed plan name (Some port_name) (Port box port) = ((box_at plan box).name ≡ name) × (port_name_at plan (box_at plan box) port ≡ port_name)
+IsPlaceNamed plan name (Some port_name) (Port box port) =
+    ((box_at plan box).name ≡ name) × (port_name_at plan (box_at plan box) port ≡ port_name)
 IsPlaceNamed plan name port_name place = ⊥
 
 -- the end is at a place of this name

@@ -22,12 +22,15 @@ IsBad plan (Abort box packet) = Unit {0}
 
 -- follows from no premise where there is no box: what a host may send may be put out at its end
 abbrev pub Starts : Plan → Fact → Type 0
-Starts plan (Out end packet) = (host : ℕ) × IsEndAt plan end (Host host) × (packet < packets_of plan) × Sends plan host packet
+Starts plan (Out end packet) =
+    (host : ℕ) × IsEndAt plan end (Host host) × (packet < packets_of plan) × Sends plan host packet
 Starts plan (State box packet mask) = ⊥
 Starts plan (Abort box packet) = ⊥
 
--- the fact follows from the premises in one step where there is no box; the premises are the `Out` of the delivered packet,
--- the `State` of the box at it, and the `State` that is changed, in this order, and without a box no premises give anything
+-- the fact follows from the premises in one step where there is no box; the premises are the `Out` of the delivered
+-- packet,
+-- the `State` of the box at it, and the `State` that is changed, in this order, and without a box no premises give
+-- anything
 abbrev pub Follows : Plan → List Fact → Fact → Type 0
 Follows plan [] fact = Starts plan fact
 Follows plan (premise ∷ premises) fact = ⊥

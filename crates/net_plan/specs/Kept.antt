@@ -26,7 +26,8 @@ abbrev pub partners_of : Plan → List (Option ℕ)
 partners_of plan = map (partner_of plan) (range_with_len 0 (ends_of plan))
 
 -- the plan is sound, and these are its tables
-pub record IsKept (plan : Plan) (headers : List ℕ) (places : List Place) (partners : List (Option ℕ)) (ends states : List ℕ) : Type 0 where
+pub record IsKept (plan : Plan) (headers : List ℕ) (places : List Place) (partners : List (Option ℕ))
+    (ends states : List ℕ) : Type 0 where
   pub sound : IsSound plan
   pub headers_are : headers ≡ sizes_of plan
   pub places_are : places ≡ places_of plan

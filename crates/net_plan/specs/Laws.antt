@@ -10,7 +10,7 @@ use Rattle.net_plan.specs.Fact.{Precedes, IsRising}
 use Rattle.net_plan.specs.Follows.{Starts, Follows, IsLeast}
 use Rattle.net_plan.specs.Net.{net}
 use Rattle.net_plan.specs.Plan.{boxes_of, box_at, ports_of, HasNoBox}
-use Rattle.net_plan.specs.Ends.{IsEndAt, IsLinked}
+use Rattle.net_plan.specs.Ends.{IsEndAt, IsLinked, partner_of}
 use Rattle.net_plan.specs.Cells.{IsInRange, cell_of, cells_of}
 use Rattle.net_plan.specs.Kept.{first_end}
 use Rattle.net_plan.specs.Sound.{IsSound}
@@ -27,7 +27,13 @@ LeastIsUnique = (plan : Plan) (one two : List Fact) → HasNoBox plan → IsLeas
 
 -- an end of a sound plan has at most one partner
 abbrev pub PartnerIsUnique : Type 0
-PartnerIsUnique = (plan : Plan) (end one two : ℕ) → IsSound plan → IsLinked plan end one → IsLinked plan end two → one ≡ two
+PartnerIsUnique =
+    (plan : Plan) (end one two : ℕ) → IsSound plan → IsLinked plan end one → IsLinked plan end two → one ≡ two
+
+-- the partner of an end of a sound plan is the end that it is linked with
+abbrev pub PartnerIsLinked : Type 0
+PartnerIsLinked =
+    (plan : Plan) (end other : ℕ) → IsSound plan → (partner_of plan end ≡ Some other) ↔ IsLinked plan end other
 
 -- where there is no box, exactly what the hosts send is derivable
 abbrev pub DerivableIsSent : Type 0
@@ -41,14 +47,17 @@ HostEnds = (plan : Plan) (end host : ℕ) → IsEndAt plan end (Host host) ↔ (
 abbrev pub PortEnds : Type 0
 PortEnds =
     (plan : Plan) (end box port : ℕ) →
-    IsEndAt plan end (Port box port) ↔ ((box < boxes_of plan) × (port < ports_of plan (box_at plan box)) × (end ≡ first_end plan box + port))
+    IsEndAt plan end (Port box port) ↔
+    ((box < boxes_of plan) × (port < ports_of plan (box_at plan box)) × (end ≡ first_end plan box + port))
 
 -- facts in range and cells are one to one, and in the same order
 pub record AreNumbered (plan : Plan) : Type 0 where
   pub below : (fact : Fact) → IsInRange plan fact → cell_of plan fact < cells_of plan
-  pub once : (one two : Fact) → IsInRange plan one → IsInRange plan two → cell_of plan one ≡ cell_of plan two → one ≡ two
+  pub once : (one two : Fact) → IsInRange plan one → IsInRange plan two → cell_of plan one ≡ cell_of plan two →
+      one ≡ two
   pub each : (cell : ℕ) → cell < cells_of plan → (fact : Fact) × IsInRange plan fact × (cell_of plan fact ≡ cell)
-  pub order : (one two : Fact) → IsInRange plan one → IsInRange plan two → Precedes one two ↔ (cell_of plan one < cell_of plan two)
+  pub order : (one two : Fact) → IsInRange plan one → IsInRange plan two →
+      Precedes one two ↔ (cell_of plan one < cell_of plan two)
 
 abbrev pub CellsAreFacts : Type 0
 CellsAreFacts = (plan : Plan) → AreNumbered plan
@@ -61,8 +70,18 @@ wire_plan = record {
   fields = record { name = codes "src"; kind = 0 } ∷ record { name = codes "dst"; kind = 0 } ∷ [];
   classes = [];
   hosts =
-      record { name = codes "p"; sends = (Some 0 ∷ None ∷ None ∷ None ∷ None ∷ None ∷ None ∷ None ∷ []) ∷ []; forbids = [] }
-      ∷ record { name = codes "q"; sends = []; forbids = (Some 0 ∷ Some 1 ∷ None ∷ None ∷ None ∷ None ∷ None ∷ None ∷ []) ∷ [] }
+      record {
+        name = codes "p";
+        sends = (Some 0 ∷ None ∷ None ∷ None ∷ None ∷ None ∷ None ∷ None ∷ [])
+            ∷ [];
+        forbids = [];
+      }
+      ∷ record {
+        name = codes "q";
+        sends = [];
+        forbids =
+            (Some 0 ∷ Some 1 ∷ None ∷ None ∷ None ∷ None ∷ None ∷ None ∷ []) ∷ [];
+      }
       ∷ [];
   boxes = [];
   links = record { one = 0; two = 1 } ∷ [];

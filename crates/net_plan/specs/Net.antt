@@ -1,5 +1,6 @@
 -- The network that a list of items without classes and boxes spells.
-use Rattle.std.specs.Prelude.{ℕ, ◌+◌, Bool, List, [], ◌∷◌, Option, Some, None, map, fold, nat_eq, slice_set, slice_index_or, if◌then◌else◌}
+use Rattle.std.specs.Prelude.{ℕ, ◌+◌, Bool, List, [], ◌∷◌, Option, Some, None, map, fold, nat_eq, slice_set}
+use Rattle.std.specs.Prelude.{slice_index_or, if◌then◌else◌}
 use Rattle.std.specs.List.{filter_map}
 use Rattle.std.specs.Cmp.Lexicographic.{pointwise}
 use Rattle.header_set.specs.Pattern.{any_pattern}
@@ -8,7 +9,8 @@ use Rattle.amdl_tree.specs.declared.tree.Equal.{Equal}
 use Rattle.amdl_tree.specs.declared.tree.End.{End}
 use Rattle.amdl_tree.specs.declared.tree.End.TheVariants.{Host as AtHost, Port as AtPort}
 use Rattle.amdl_tree.specs.declared.tree.Item.{Item}
-use Rattle.amdl_tree.specs.declared.tree.Item.TheVariants.{Kind, Field, Class as OfClass, Host, Instance, Link, Sends, Forbid}
+use Rattle.amdl_tree.specs.declared.tree.Item.TheVariants.{Kind, Field, Class as OfClass, Host, Instance, Link, Sends}
+use Rattle.amdl_tree.specs.declared.tree.Item.TheVariants.{Forbid}
 use Rattle.net_plan.specs.declared.plan.Plan.{Plan}
 use Rattle.net_plan.specs.declared.plan.KindPlan.{KindPlan}
 use Rattle.net_plan.specs.declared.plan.FieldPlan.{FieldPlan}
@@ -62,7 +64,8 @@ field_number fields name = number_of (map (λ field. field.name) fields) name
 -- the names of the values that a field may have
 abbrev pub values_of_field : List KindPlan → List FieldPlan → ℕ → List (List ℕ)
 values_of_field kinds fields field =
-    (slice_index_or kinds (slice_index_or fields field (record { name = []; kind = 0 })).kind (record { name = []; values = [] })).values
+    (slice_index_or kinds (slice_index_or fields field (record { name = []; kind = 0 })).kind
+    (record { name = []; values = [] })).values
 
 -- the pattern with one equation more: its field is fixed to the number of its value among the values of the field
 abbrev pub with_equal : List KindPlan → List FieldPlan → List (Option ℕ) → Equal → List (Option ℕ)

@@ -1,4 +1,5 @@
--- What a plan says: its types, fields and classes, and what its hosts may send and must not get. What is read by a number
+-- What a plan says: its types, fields and classes, and what its hosts may send and must not get. What is read by a
+-- number
 -- means something where the number is in range.
 use Rattle.std.specs.Prelude.{◌≡◌, ℕ, ◌<◌, ◌^◌, List, [], Option, length, map, slice_index_or}
 use Rattle.std.specs.List.{Any, range_with_len}
@@ -22,7 +23,8 @@ abbrev pub field_at : Plan → ℕ → FieldPlan
 field_at plan field = slice_index_or plan.fields field (record { name = []; kind = 0 })
 
 abbrev pub class_at : Plan → ℕ → ClassPlan
-class_at plan class = slice_index_or plan.classes class (record { ports = []; relations = []; handlers = []; queries = [] })
+class_at plan class =
+    slice_index_or plan.classes class (record { ports = []; relations = []; handlers = []; queries = [] })
 
 abbrev pub host_at : Plan → ℕ → HostPlan
 host_at plan host = slice_index_or plan.hosts host (record { name = []; sends = []; forbids = [] })

@@ -1,5 +1,6 @@
 -- Sound plans: numbers in range, names apart, and the limits of a network.
-use Rattle.std.specs.Prelude.{◌≡◌, ◌≢◌, ℕ, ◌<◌, ◌≤◌, List, [], ◌∷◌, ◌++◌, Option, Some, length, map, sum_by, slice_get, slice_index}
+use Rattle.std.specs.Prelude.{◌≡◌, ◌≢◌, ℕ, ◌<◌, ◌≤◌, List, [], ◌∷◌, ◌++◌, Option, Some, length, map, sum_by, slice_get}
+use Rattle.std.specs.Prelude.{slice_index}
 use Rattle.std.specs.List.{All, AllPairs, flat_map}
 use Rattle.amdl_tree.specs.Word.{IsName}
 use Rattle.header_set.specs.Headers.{IsHeaders}
@@ -51,7 +52,8 @@ terms_of plan = flat_map (λ kind. kind.values) plan.kinds ++ map (λ field. fie
 abbrev pub nodes_of : Plan → List (List ℕ)
 nodes_of plan = map (λ host. host.name) plan.hosts ++ map (λ box. box.name) plan.boxes
 
--- the network has a name, and no two names of one space are equal; ports and relations have a space in each class, and the
+-- the network has a name, and no two names of one space are equal; ports and relations have a space in each class, and
+-- the
 -- names of classes are not kept
 pub record HasNamesApart (plan : Plan) : Type 0 where
   pub named : IsName plan.name
@@ -75,7 +77,8 @@ pub record IsClass (plan : Plan) (class : ClassPlan) : Type 0 where
 -- the entry is a tuple of a relation of the class
 pub record IsEntry (plan : Plan) (class : ClassPlan) (entry : Entry) : Type 0 where
   pub relation : entry.relation < length class.relations
-  pub tuple : (relation : RelationPlan) → slice_get class.relations entry.relation ≡ Some relation → entry.tuple < tuples_of plan relation
+  pub tuple : (relation : RelationPlan) → slice_get class.relations entry.relation ≡ Some relation →
+      entry.tuple < tuples_of plan relation
 
 -- a box is of a class of the plan, and its first contents are a rising list of tuples of the class
 pub record IsBox (plan : Plan) (box : BoxPlan) : Type 0 where
@@ -132,11 +135,10 @@ pub record HasLimits (plan : Plan) : Type 0 where
   pub box : All IsSmallBox plan.boxes
   pub sends : sum_by (λ host. length host.sends) plan.hosts ≤ 1024
   pub forbids : sum_by (λ host. length host.forbids) plan.hosts ≤ 1024
-  -- a link has two ends
-  pub links : length plan.links ≤ ends_of plan
   pub cells : cells_of plan ≤ 4194304
 
--- a class has one handler for each of its ports; each fits with no pick around it, the queries are what they ask, and they are
+-- a class has one handler for each of its ports; each fits with no pick around it, the queries are what they ask, and
+-- they are
 -- within the limits
 pub record IsHandled (plan : Plan) (class : ClassPlan) : Type 0 where
   pub one_each : length class.handlers ≡ length class.ports

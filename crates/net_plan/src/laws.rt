@@ -1,5 +1,6 @@
 //! Laws over the definitions, each the contract of a function that does nothing.
-ghost use Rattle.net_plan.specs.Laws.{RisingIsUnique, LeastIsUnique, PartnerIsUnique, DerivableIsSent, HostEnds, PortEnds, CellsAreFacts, WireNetwork};
+ghost use Rattle.net_plan.specs.Laws.{RisingIsUnique, LeastIsUnique, PartnerIsUnique, PartnerIsLinked, DerivableIsSent};
+ghost use Rattle.net_plan.specs.Laws.{HostEnds, PortEnds, CellsAreFacts, WireNetwork};
 
 /// A rising list of facts is settled by its members.
 pub fn rising_is_unique()
@@ -14,6 +15,11 @@ pub fn least_is_unique()
 /// An end has at most one partner.
 pub fn partner_is_unique()
     ensures { PartnerIsUnique }
+{}
+
+/// The partner of an end is the end that it is linked with.
+pub fn partner_is_linked()
+    ensures { PartnerIsLinked }
 {}
 
 /// Where there is no box, exactly what the hosts send is derivable.

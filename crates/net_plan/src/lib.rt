@@ -7,7 +7,9 @@ mod network;
 mod plan;
 mod tables;
 
+pub use box_contents::Entry;
 pub use box_handlers::{Act, Branch, Change, Probe, Query, Term, Test};
 pub use fact::{Fact, Place, precedes};
+pub use header_set::{Headers, Pattern};
 pub use network::Network;
 pub use plan::{BoxPlan, ClassPlan, FieldPlan, HostPlan, KindPlan, LinkPlan, Plan, RelationPlan};

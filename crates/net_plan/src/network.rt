@@ -1,5 +1,6 @@
 ghost use Rattle.std.specs.Prelude.{◌≡◌, ℕ, ◌<◌, ◌≤◌, ◌↔◌, [], length, slice_index_or, IsTrue, IfOk};
-ghost use Rattle.net_plan.specs.Plan.{sizes_of, packets_of, boxes_of, kind_at, field_at, host_at, box_at, class_of, ports_of, masks_of, port_name_at, Sends, Forbids};
+ghost use Rattle.net_plan.specs.Plan.{sizes_of, packets_of, boxes_of, kind_at, field_at, host_at, box_at, class_of};
+ghost use Rattle.net_plan.specs.Plan.{ports_of, masks_of, port_name_at, Sends, Forbids};
 ghost use Rattle.net_plan.specs.Cells.{IsInRange};
 ghost use Rattle.header_set.specs.Headers.{product};
 ghost use Rattle.header_set.specs.Pattern.{Matches};
@@ -52,7 +53,8 @@ impl Model for Network {
 
     ghost view = { λ network. network.plan };
 
-    ghost invariant = { λ network. IsKept network.plan network.headers network.places network.partners network.first_ends network.first_states };
+    ghost invariant = { λ network. IsKept network.plan network.headers network.places network.partners network.first_ends
+        network.first_states };
 }
 
 impl Network {
@@ -84,7 +86,7 @@ impl Network {
         let _plan = &self.plan;
     }
 
-    /// The headers: one to eight fields, and at most 65,536 packets.
+    /// The headers, which by `sound` have one to eight fields and at most 65,536 packets.
     pub fn headers(&self) -> &Headers
         ensures { result.now ≡ sizes_of self.now }
     {
@@ -98,7 +100,7 @@ impl Network {
         self.plan.name
     }
 
-    /// The number of hosts, at most 256.
+    /// The number of hosts, by `sound` at most 256.
     pub fn hosts(&self) -> u32
         ensures { result ≡ length self.now.hosts }
     {
@@ -106,7 +108,7 @@ impl Network {
         plan.hosts.as_slice().len() as u32
     }
 
-    /// The number of boxes, at most 256.
+    /// The number of boxes, by `sound` at most 256.
     pub fn boxes(&self) -> u32
         ensures { result ≡ boxes_of self.now }
     {
@@ -123,7 +125,7 @@ impl Network {
         plan.links.as_slice().len() as u32
     }
 
-    /// The number of types, at most 32.
+    /// The number of types, by `sound` at most 32.
     pub fn types(&self) -> u32
         ensures { result ≡ length self.now.kinds }
     {
@@ -131,7 +133,7 @@ impl Network {
         plan.kinds.as_slice().len() as u32
     }
 
-    /// The number of classes, at most 64.
+    /// The number of classes, by `sound` at most 64.
     pub fn classes(&self) -> u32
         ensures { result ≡ length self.now.classes }
     {
@@ -190,7 +192,7 @@ impl Network {
         self.field(k).kind
     }
 
-    /// The number of values of a type, from 1 to 256.
+    /// The number of values of a type, by `sound` from 1 to 256.
     pub fn values(&self, kind: u32) -> u32
         requires { kind < length self.now.kinds }
         ensures { result ≡ length (kind_at self.now kind).values }

@@ -33,7 +33,8 @@ impl Network {
     /// its box and its own. None comes exactly where no such end is declared. Linear in the hosts, or in the boxes and
     /// the ports of the box.
     pub fn find_end(&self, host_or_box: Name, port: Option<Name>) -> Option<u32>
-        ensures { MatchOption result ((end : ℕ) → IsEndNamed self.now host_or_box port end → ⊥) (IsEndNamed self.now host_or_box port) }
+        ensures { MatchOption result ((end : ℕ) → IsEndNamed self.now host_or_box port end → ⊥)
+            (IsEndNamed self.now host_or_box port) }
     {
         match port {
             None => self.find_host_end(host_or_box),
@@ -42,7 +43,8 @@ impl Network {
     }
 
     fn find_host_end(&self, name: Name) -> Option<u32>
-        ensures { MatchOption result ((end : ℕ) → IsEndNamed self.now name None end → ⊥) (IsEndNamed self.now name None) }
+        ensures { MatchOption result ((end : ℕ) → IsEndNamed self.now name None end → ⊥)
+            (IsEndNamed self.now name None) }
     {
         match self.find_host(name) {
             Some(host) => Some(self.end_of_host(host)),
@@ -51,7 +53,8 @@ impl Network {
     }
 
     fn find_port_end(&self, name: Name, port: Name) -> Option<u32>
-        ensures { MatchOption result ((end : ℕ) → IsEndNamed self.now name (Some port) end → ⊥) (IsEndNamed self.now name (Some port)) }
+        ensures { MatchOption result ((end : ℕ) → IsEndNamed self.now name (Some port) end → ⊥)
+            (IsEndNamed self.now name (Some port)) }
     {
         self.sound();
         match self.find_box(name) {
@@ -87,36 +90,24 @@ impl Network {
 
 // The place of the first of the hosts that has this name.
 fn place_of_host(hosts: &[HostPlan], name: Name) -> Option<usize>
-    ensures { MatchOption result (All (λ host. host.name ≢ name) hosts.now) (λ place. (place < length hosts.now) × ((d : HostPlan) → (slice_index_or hosts.now place d).name ≡ name)) }
+    ensures { MatchOption result (All (λ host. host.name ≢ name) hosts.now)
+        (λ place. (place < length hosts.now) × ((d : HostPlan) → (slice_index_or hosts.now place d).name ≡ name)) }
 {
-    for (place, host) in hosts.iter().enumerate() {
-        if host.name == name {
-            return Some(place);
-        }
-    }
-    None
+    hosts.iter().position(|host| host.name == name)
 }
 
 // The place of the first of the boxes that has this name.
 fn place_of_box(boxes: &[BoxPlan], name: Name) -> Option<usize>
-    ensures { MatchOption result (All (λ boxed. boxed.name ≢ name) boxes.now) (λ place. (place < length boxes.now) × ((d : BoxPlan) → (slice_index_or boxes.now place d).name ≡ name)) }
+    ensures { MatchOption result (All (λ boxed. boxed.name ≢ name) boxes.now)
+        (λ place. (place < length boxes.now) × ((d : BoxPlan) → (slice_index_or boxes.now place d).name ≡ name)) }
 {
-    for (place, boxed) in boxes.iter().enumerate() {
-        if boxed.name == name {
-            return Some(place);
-        }
-    }
-    None
+    boxes.iter().position(|boxed| boxed.name == name)
 }
 
 // The place of the first of the names that is this one.
 fn place_of_name(names: &[Name], name: Name) -> Option<usize>
-    ensures { MatchOption result ((place : ℕ) → place < length names.now → slice_index_or names.now place [] ≢ name) (λ place. (place < length names.now) × (slice_index_or names.now place [] ≡ name)) }
+    ensures { MatchOption result ((place : ℕ) → place < length names.now → slice_index_or names.now place [] ≢ name)
+        (λ place. (place < length names.now) × (slice_index_or names.now place [] ≡ name)) }
 {
-    for (place, other) in names.iter().enumerate() {
-        if *other == name {
-            return Some(place);
-        }
-    }
-    None
+    names.iter().position(|other| *other == name)
 }

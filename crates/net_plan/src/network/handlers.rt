@@ -2,7 +2,8 @@
 ghost use Rattle.std.specs.Prelude.{◌≡◌, ℕ, ◌<◌, ◌≤◌, [], length, map, slice_index_or, All};
 ghost use Rattle.box_contents.specs.Contents.{IsRising, holds_entry};
 ghost use Rattle.box_handlers.specs.Tuple.{tuples_over, tuple_number, value_of};
-ghost use Rattle.net_plan.specs.Plan.{packets_of, boxes_of, box_at, class_of, ports_of, values_of, relation_at, tuples_of, fields_at};
+ghost use Rattle.net_plan.specs.Plan.{packets_of, boxes_of, box_at, class_of, ports_of, values_of, relation_at};
+ghost use Rattle.net_plan.specs.Plan.{tuples_of, fields_at};
 ghost use Rattle.net_plan.specs.Reading.{IsRead, TermsFitAt, QueryFitsAt, ChangesFitAt, tuple_at, changed_at};
 
 use super::Network;
@@ -30,7 +31,7 @@ impl Network {
         self.product_of(self.relation(b, relation).kinds.as_slice())
     }
 
-    /// The first contents of a box in rising order, at most 1,024 entries.
+    /// The first contents of a box in rising order, by `sound` at most 1,024 entries.
     pub fn first_entries(&self, b: u32) -> &[Entry]
         requires { b < boxes_of self.now }
         ensures entries { result.now ≡ (box_at self.now b).first }

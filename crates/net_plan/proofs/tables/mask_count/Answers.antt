@@ -12,4 +12,5 @@ few n k e small =
 
 pub returns-clause-few : goal.returns-clause-few
 returns-clause-few c =
-    subst (λ (n : ℕ). n ≤ 4096) (sym c.pow.ensures) (few (length c.args.class.now.queries) (length c.as_slice.result.now) (ap length c.as_slice.ensures) c.requires)
+    subst (λ (n : ℕ). n ≤ 4096) (sym c.pow.ensures)
+    (few (length c.args.class.now.queries) (length c.as_slice.result.now) (ap length c.as_slice.ensures) c.requires)

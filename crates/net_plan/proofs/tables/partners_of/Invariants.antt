@@ -7,5 +7,6 @@ abbrev pub invariant-loop-link : goal.invariant-loop-link
 invariant-loop-link l = record {
   room : length l.partners ≡ l.ends;
   told : (end : ℕ) → end < l.ends → MatchOption (slice_index_or l.partners end None)
-      ((other : ℕ) → IsLinkedBy (take l.link-index l.plan.links) end other → ⊥) (IsLinkedBy (take l.link-index l.plan.links) end);
+      ((other : ℕ) → IsLinkedBy (take l.link-index l.plan.links) end other → ⊥)
+      (IsLinkedBy (take l.link-index l.plan.links) end);
 }

@@ -12,4 +12,5 @@ loop-port-preserved c =
     c.in_ok-push.ensures.ok
     ∙ ap (λ (places : List Place). places ++ Port c.args.number port ∷ []) c.loop-port.invariant
     ∙ append_assoc before (map (Port c.args.number) (range_with_len 0 port)) (Port c.args.number port ∷ [])
-    ∙ ap (λ (places : List Place). before ++ places) (sym (map-range_with_len_more (Port c.args.number) 0 port port (zero-add port)))
+    ∙ ap (λ (places : List Place). before ++ places)
+    (sym (map-range_with_len_more (Port c.args.number) 0 port port (zero-add port)))

@@ -8,7 +8,8 @@ use Rattle.net_plan.proofs.EndLemmas as ends
 use Rattle.net_plan.proofs.network.Network.find_host_end.Goals as goal
 
 -- the end of a host of the name is that of a host of the name
-host_named : (plan : Plan) (name : List ℕ) (end : ℕ) (place : Place) → IsEndAt plan end place → IsPlaceNamed plan name None place → (host : ℕ) × IsHostNamed plan name host
+host_named : (plan : Plan) (name : List ℕ) (end : ℕ) (place : Place) → IsEndAt plan end place →
+    IsPlaceNamed plan name None place → (host : ℕ) × IsHostNamed plan name host
 host_named plan name end (Host host) there named = (host, (((ends.host_ends plan end host).0 there).0, named))
 host_named plan name end (Port box port) there named = absurd named
 

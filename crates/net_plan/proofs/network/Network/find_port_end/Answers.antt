@@ -17,16 +17,19 @@ record IsPortNamed (plan : Plan) (name port_name : List ℕ) : Type 0 where
   in_range : port < ports_of plan (box_at plan box)
   named : port_name_at plan (box_at plan box) port ≡ port_name
 
-port_named : (plan : Plan) (name port_name : List ℕ) (end : ℕ) (place : Place) → IsEndAt plan end place → IsPlaceNamed plan name (Some port_name) place → IsPortNamed plan name port_name
+port_named : (plan : Plan) (name port_name : List ℕ) (end : ℕ) (place : Place) → IsEndAt plan end place →
+    IsPlaceNamed plan name (Some port_name) place → IsPortNamed plan name port_name
 port_named plan name port_name end (Host host) there named = absurd named
 port_named plan name port_name end (Port box port) there named =
     let at_port = (ends.port_ends plan end box port).0 there in
     record { box = box; port = port; boxed = (at_port.0, named.0); in_range = at_port.1; named = named.1 }
 
 told : (plan : Plan) (name port_name : List ℕ) (box : ℕ) (found : Option ℕ) → IsSound plan → IsBoxNamed plan name box →
-    MatchOption found ((port : ℕ) → port < ports_of plan (box_at plan box) → port_name_at plan (box_at plan box) port ≢ port_name)
+    MatchOption found
+    ((port : ℕ) → port < ports_of plan (box_at plan box) → port_name_at plan (box_at plan box) port ≢ port_name)
     (λ end. (port : ℕ) × IsEndAt plan end (Port box port) × (port_name_at plan (box_at plan box) port ≡ port_name)) →
-    MatchOption found ((end : ℕ) → IsEndNamed plan name (Some port_name) end → ⊥) (IsEndNamed plan name (Some port_name))
+    MatchOption found ((end : ℕ) → IsEndNamed plan name (Some port_name) end → ⊥)
+    (IsEndNamed plan name (Some port_name))
 told plan name port_name box (Some end) sound boxed tells = (Port box tells.0, tells.1, (boxed.1, tells.2))
 told plan name port_name box None sound boxed tells = λ end there.
     let found : IsPortNamed plan name port_name = port_named plan name port_name end there.0 there.1 there.2 in
@@ -35,9 +38,12 @@ told plan name port_name box None sound boxed tells = λ end there.
     (subst (λ (b : ℕ). port_name_at plan (box_at plan b) found.port ≡ port_name) same found.named)
 
 pub returns-in-Some : goal.returns-in-Some
-returns-in-Some c = told c.args.self.now c.args.name c.args.port c.in-Some.b c.find_end_of.result c.sound.ensures c.in-Some.ensures c.find_end_of.ensures
+returns-in-Some c =
+    told c.args.self.now c.args.name c.args.port c.in-Some.b c.find_end_of.result c.sound.ensures c.in-Some.ensures
+    c.find_end_of.ensures
 
 pub returns-in-None : goal.returns-in-None
 returns-in-None c = λ end there.
-    let found : IsPortNamed c.args.self.now c.args.name c.args.port = port_named c.args.self.now c.args.name c.args.port end there.0 there.1 there.2 in
+    let found : IsPortNamed c.args.self.now c.args.name c.args.port =
+    port_named c.args.self.now c.args.name c.args.port end there.0 there.1 there.2 in
     c.in-None.ensures found.box found.boxed

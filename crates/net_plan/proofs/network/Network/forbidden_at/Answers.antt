@@ -14,6 +14,8 @@ pub returns-in-Host : goal.returns-in-Host
 returns-in-Host c = (
   λ yes. (c.in-Host.host, c.in-Host.ensures, c.forbidden.ensures.0 yes),
   λ bad.
-      let same : bad.0 ≡ c.in-Host.host = same_host bad.0 c.in-Host.host (ends.end_once c.args.self.now c.args.end (Host bad.0) (Host c.in-Host.host) bad.1 c.in-Host.ensures) in
+      let same : bad.0 ≡ c.in-Host.host =
+      same_host bad.0 c.in-Host.host
+      (ends.end_once c.args.self.now c.args.end (Host bad.0) (Host c.in-Host.host) bad.1 c.in-Host.ensures) in
       c.forbidden.ensures.1 (subst (λ (host : ℕ). Forbids c.args.self.now host c.args.packet) same bad.2),
 )

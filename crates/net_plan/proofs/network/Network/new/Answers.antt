@@ -5,5 +5,6 @@ use Rattle.net_plan.proofs.network.Network.new.Goals as goal
 
 pub overflow_cast-ends : goal.overflow_cast-ends
 overflow_cast-ends c =
-    let counted : length c.as_slice.result.now ≡ ends_of c.args.plan = ap length (c.as_slice.ensures ∙ c.in_ok-places.ensures) in
+    let counted : length c.as_slice.result.now ≡ ends_of c.args.plan =
+    ap length (c.as_slice.ensures ∙ c.in_ok-places.ensures) in
     omega (arith, counted, ends_small c.args.plan c.requires)

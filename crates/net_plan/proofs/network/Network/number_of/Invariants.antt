@@ -5,4 +5,5 @@ use Rattle.net_plan.proofs.ReadLemmas.{IsSoFar}
 use Rattle.net_plan.proofs.network.Network.number_of.Given as goal
 
 abbrev pub invariant-loop-place : goal.invariant-loop-place
-invariant-loop-place l = IsSoFar (map (values_of l.self) l.kinds) (map (value_of (fields_at l.self l.p) l.picked) l.terms) l.place l.tuple
+invariant-loop-place l =
+    IsSoFar (map (values_of l.self) l.kinds) (map (value_of (fields_at l.self l.p) l.picked) l.terms) l.place l.tuple

@@ -8,7 +8,8 @@ use Rattle.net_plan.proofs.network.Network.value_at.Goals as goal
 
 pub returns-in-Field : goal.returns-in-Field
 returns-in-Field c =
-    let there : c.in-Field.k < length c.args.self.now.fields = subst (IsRead c.args.self.now c.args.picked.now) c.in-Field.is c.requires.read in
+    let there : c.in-Field.k < length c.args.self.now.fields =
+    subst (IsRead c.args.self.now c.args.picked.now) c.in-Field.is c.requires.read in
     c.field.ensures.value
     ∙ ap (λ (sizes : List ℕ). field_of sizes c.args.p c.in-Field.k) c.headers.ensures
     ∙ sym (field_read c.args.self.now c.args.p c.in-Field.k there)
