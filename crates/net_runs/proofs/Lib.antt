@@ -1,1 +1,6 @@
-mod RunLemmas
+mod CoverLemmas
+mod EnabledLemmas
+mod ListLemmas
+mod PlanLemmas
+mod StepLemmas
+mod WorldLemmas

@@ -1,4 +1,4 @@
-//! States, steps and runs of a network, and what holds of them.
+//! States, steps and runs of a network with boxes, and what holds of them.
 #![tactic(auto)]
 
 pub mod laws;

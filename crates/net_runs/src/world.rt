@@ -1,4 +1,5 @@
 use amdl_tree::List;
+use box_contents::Entry;
 
 /// How channels hand packets on.
 #[derive(Clone, Copy, PartialEq, Eq, Debug)]
@@ -14,7 +15,8 @@ pub enum Mode {
 pub enum Step {
     /// A host sends a packet: the host, then the packet.
     Send(u32, u32),
-    /// A packet is delivered: the receiving end, the packet, and the choices that the handler of a box makes, none at a host.
+    /// A packet is delivered: the receiving end, the packet, and the choices that the handler of a box makes, none at a
+    /// host.
     Deliver(u32, u32, List<u32>),
     /// A box goes back to its first contents.
     Revert(u32),
@@ -31,9 +33,10 @@ pub enum Event {
     Aborted(u32, u32),
 }
 
-/// The state of a network: for each end, the packets that wait in the channel out of it, in their order. The list of an end
-/// without a link is empty.
+/// The state of a network: for each end, the packets that wait in the channel out of it, in their order, and for each
+/// box its contents, in rising order. The list of an end without a link is empty.
 #[derive(Debug, Drop)]
 pub struct World {
     pub waiting: List<List<u32>>,
+    pub contents: List<List<Entry>>,
 }

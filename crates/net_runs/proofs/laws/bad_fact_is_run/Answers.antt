@@ -1,4 +1,4 @@
-use Rattle.net_runs.proofs.RunLemmas as lemmas
+use Rattle.net_runs.proofs.CoverLemmas as lemmas
 use Rattle.net_runs.proofs.laws.bad_fact_is_run.Goals as goal
 
 pub returns : goal.returns

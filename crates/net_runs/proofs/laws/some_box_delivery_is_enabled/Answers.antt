@@ -1,0 +1,5 @@
+use Rattle.net_runs.proofs.EnabledLemmas as lemmas
+use Rattle.net_runs.proofs.laws.some_box_delivery_is_enabled.Goals as goal
+
+pub returns : goal.returns
+returns c = lemmas.some_box_delivery_is_enabled c.outcome_is_in_range.ensures c.handler_executes.ensures
