@@ -1,2 +1,3 @@
 mod BoxLemmas
 mod WireLemmas
+mod LoopLemmas

@@ -1,5 +1,7 @@
 -- The wire network by hand.
-use Rattle.std.proofs.Common.{◌≡◌, ℕ, zero, suc, ◌<◌, List, [], ◌∷◌, ◌++◌, Option, Some, None, refl, sym, ap, subst, ◌∙◌, ◌⊎◌, inl, inr, arith, lit<}
+use Rattle.std.proofs.Common.{◌≡◌, ℕ, zero, suc, ◌<◌, List, [], ◌∷◌, ◌++◌, Option, Some, None, refl, sym, ap, subst}
+use Rattle.std.proofs.Common.{◌∙◌, ◌⊎◌, inl, inr, arith, lit<}
+use Rattle.std.specs.Prelude.{slice_get}
 use Rattle.std.specs.List.{Any, Contains}
 use Rattle.header_set.specs.Headers.{field_of}
 use Rattle.header_set.specs.Pattern.{fixed_at, Matches}
@@ -12,16 +14,17 @@ use Rattle.net_runs.specs.declared.world.Step.TheVariants.{Send, Deliver}
 use Rattle.net_runs.specs.declared.world.Event.{Event}
 use Rattle.net_runs.specs.declared.world.Event.TheVariants.{Moved, Delivered}
 use Rattle.net_runs.specs.declared.world.World.{World}
-use Rattle.net_plan.specs.declared.fact.Place.TheVariants.{Host}
+use Rattle.net_plan.specs.declared.fact.Place.TheVariants.{Host, Port}
 use Rattle.net_plan.specs.Plan.{Sends, Forbids}
 use Rattle.net_plan.specs.Ends.{IsEndAt, IsLinkedBy, Joins}
-use Rattle.net_runs.specs.World.{first_world, waiting_at, with_waiting, IsNext, PutsOut, Leads, Run}
+use Rattle.net_runs.specs.World.{first_world, with_waiting, IsNext, IsTaken, PutsOut, Leads, Run}
 use Rattle.net_plan.specs.Laws.{wire_plan, DerivableIsSent}
 use Rattle.net_runs.specs.Laws.{SafeNetworkRunsSafely}
 use Rattle.net_plan.specs.Fact.{IsRising}
 use Rattle.net_plan.specs.Follows.{Starts, IsLeast, IsBad, IsForbiddenDelivery}
 use Rattle.net_plan.proofs.Rising.{contained_cases, none_contained, head_contained}
-use Rattle.net_examples.specs.Wire.{TwiceDelivered, NoThirdDelivery, BadRunByHand, NoOrderedBadRun, NothingElseEnabled, SafeWireRunsSafely, safe_wire_plan}
+use Rattle.net_examples.specs.Wire.{TwiceDelivered, NoThirdDelivery, BadRunByHand, NoOrderedBadRun, NothingElseEnabled}
+use Rattle.net_examples.specs.Wire.{SafeWireRunsSafely, safe_wire_plan}
 
 -- two fields of two values
 abbrev sizes : List ℕ
@@ -76,22 +79,25 @@ linked_to from to linked =
     elim (contained_cases (record { one = 0; two = 1 }) linked.0 [] linked.1) [
       | inr none ↦ absurd (none_contained linked.0 none)
       | inl same ↦
-          let joins : Joins (record { one = 0; two = 1 }) from to = subst (λ (l : LinkPlan). Joins l from to) (sym same) linked.2 in
+          let joins : Joins (record { one = 0; two = 1 }) from to = subst (λ (l : LinkPlan). Joins l from to)
+          (sym same) linked.2 in
           elim joins [ inl here ↦ inl (sym here.0, sym here.1) | inr here ↦ inr (sym here.1, sym here.0) ]
     ]
 
 from_zero : (from : ℕ) → IsLinkedBy wire_links from 1 → from ≡ 0
-from_zero from linked = elim (linked_to from 1 linked) [ inl here ↦ here.0 | inr here ↦ absurd (let no : 1 ≡ 0 = here.1 in omega arith) ]
+from_zero from linked =
+    elim (linked_to from 1 linked) [ inl here ↦ here.0 | inr here ↦ absurd (let no : 1 ≡ 0 = here.1 in omega arith) ]
 
 from_one : (from : ℕ) → IsLinkedBy wire_links from 0 → from ≡ 1
-from_one from linked = elim (linked_to from 0 linked) [ inl here ↦ absurd (let no : 0 ≡ 1 = here.1 in omega arith) | inr here ↦ here.0 ]
+from_one from linked =
+    elim (linked_to from 0 linked) [ inl here ↦ absurd (let no : 0 ≡ 1 = here.1 in omega arith) | inr here ↦ here.0 ]
 
 zero_to_one : IsLinkedBy wire_links 0 1
 zero_to_one = (record { one = 0; two = 1 }, head_contained (record { one = 0; two = 1 }) [], inl (refl, refl))
 
 -- what waits out of end 0, and nothing out of end 1
 abbrev world_of : List ℕ → World
-world_of packets = record { waiting = packets ∷ [] ∷ [] }
+world_of packets = record { waiting = packets ∷ [] ∷ []; contents = [] }
 
 -- the one member of a list of one pattern
 one_pattern : (P : List (Option ℕ) → Type 0) (pattern : List (Option ℕ)) → Any P (pattern ∷ []) → P pattern
@@ -102,7 +108,8 @@ sends_first : (packet : ℕ) → field_of sizes packet 0 ≡ 0 → Sends wire_pl
 sends_first packet has = (0, first_is 0, lit< tt, refl, first_matches packet 0 has)
 
 sent_first : (packet : ℕ) → Sends wire_plan 0 packet → field_of sizes packet 0 ≡ 0
-sent_first packet sends = first_of_match packet 0 (one_pattern (λ pattern. Matches sizes pattern packet) (first_is 0) sends)
+sent_first packet sends =
+    first_of_match packet 0 (one_pattern (λ pattern. Matches sizes pattern packet) (first_is 0) sends)
 
 send_step : (mode : Mode) (packets : List ℕ) (packet : ℕ) → packet < 4 → field_of sizes packet 0 ≡ 0 →
     Leads wire_plan mode (world_of packets) (Send 0 packet) Moved (world_of (packets ++ packet ∷ []))
@@ -111,22 +118,31 @@ send_step mode packets packet less has = record {
   at_host = refl;
   packet_in_range = less;
   sends = sends_first packet has;
-  put_out = record { linked = λ other _. refl; unlinked = λ none. absurd (none 1 zero_to_one) };
+  put_out = record {
+    linked = λ other _. record { packets = packets; waits = refl; leaves = refl };
+    unlinked = λ none. absurd (none 1 zero_to_one);
+  };
   happens = refl;
 }
 
-deliver_step : (mode : Mode) (front rest : List ℕ) (packet : ℕ) → packet < 4 → (Contains front packet → ⊥) → IsNext mode packet (front ++ (packet ∷ rest)) →
-    Leads wire_plan mode (world_of (front ++ (packet ∷ rest))) (Deliver 1 packet []) (Delivered 1 packet) (world_of (front ++ rest))
-deliver_step mode front rest packet less first next = record {
+deliver_step : (mode : Mode) (front rest : List ℕ) (packet : ℕ) → packet < 4 → (Contains front packet → ⊥) →
+    IsNext mode packet (front ++ (packet ∷ rest)) →
+    Leads wire_plan mode (world_of (front ++ (packet ∷ rest))) (Deliver 1 packet []) (Delivered 1 packet)
+    (world_of (front ++ rest))
+deliver_step mode front rest packet less first next = inl record {
   host = 1;
   at_host = refl;
   packet_in_range = less;
-  from = 0;
-  linked = zero_to_one;
-  next = next;
-  left = front ++ rest;
-  takes = record { front = front; rest = rest; stood = refl; first = first; taken = refl };
-  leaves = refl;
+  taken = record {
+    from = 0;
+    linked = zero_to_one;
+    packets = front ++ (packet ∷ rest);
+    waits = refl;
+    next = next;
+    others = front ++ rest;
+    takes = record { front = front; rest = rest; stood = refl; first = first; taken = refl };
+    leaves = refl;
+  };
   no_choices = refl;
   happens = refl;
 }
@@ -179,12 +195,17 @@ ends_apart (suc zero) host at = let same : Host 1 ≡ Host host = inside at in c
 ends_apart (suc (suc end)) host at = absurd (cc)
 
 -- what the steps leave
-after_send : (mode : Mode) (packets : List ℕ) (packet : ℕ) (old new : World) (event : Event) → old ≡ world_of packets → Leads wire_plan mode old (Send 0 packet) event new →
+after_send : (mode : Mode) (packets : List ℕ) (packet : ℕ) (old new : World) (event : Event) → old ≡ world_of packets →
+    Leads wire_plan mode old (Send 0 packet) event new →
     new ≡ world_of (packets ++ packet ∷ [])
 after_send mode packets packet old new event was leads =
     let first : leads.end ≡ 0 = ends_apart leads.end 0 leads.at_host in
-    let out : PutsOut wire_plan 0 packet old new = subst (λ (e : ℕ). PutsOut wire_plan e packet old new) first leads.put_out in
-    out.linked 1 zero_to_one ∙ ap (λ (w : World). with_waiting w 0 (waiting_at w 0 ++ packet ∷ [])) was
+    let out : PutsOut wire_plan 0 packet old new =
+    subst (λ (e : ℕ). PutsOut wire_plan e packet old new) first leads.put_out in
+    let last = out.linked 1 zero_to_one in
+    let waits : last.packets ≡ packets = inside (sym last.waits ∙ ap (λ (w : World). slice_get w.waiting 0) was) in
+    last.leaves ∙ ap (λ (l : List ℕ). with_waiting old 0 (l ++ packet ∷ [])) waits
+    ∙ ap (λ (w : World). with_waiting w 0 (packets ++ packet ∷ [])) was
 
 -- a delivery to host 1 takes what waits
 record HasTaken (mode : Mode) (packets : List ℕ) (packet : ℕ) (new : World) : Type 0 where
@@ -195,45 +216,66 @@ record HasTaken (mode : Mode) (packets : List ℕ) (packet : ℕ) (new : World) 
   next : IsNext mode packet packets
   left : new ≡ world_of (front ++ rest)
 
-after_delivery : (mode : Mode) (packets : List ℕ) (packet : ℕ) (old new : World) (event : Event) → old ≡ world_of packets → Leads wire_plan mode old (Deliver 1 packet []) event new →
-    HasTaken mode packets packet new
-after_delivery mode packets packet old new event was leads =
-    let from : leads.from ≡ 0 = from_zero leads.from leads.linked in
-    let waits : waiting_at old leads.from ≡ packets = ap (waiting_at old) from ∙ ap (λ (w : World). waiting_at w 0) was in
+-- no end is a port
+no_port : (end box port : ℕ) → IsEndAt wire_plan end (Port box port) → ⊥
+no_port zero box port at = let same : Host 0 ≡ Port box port = inside at in cc
+no_port (suc zero) box port at = let same : Host 1 ≡ Port box port = inside at in cc
+no_port (suc (suc end)) box port at = absurd (cc)
+
+taken_shown : (mode : Mode) (packets : List ℕ) (packet : ℕ) (old new : World) → old ≡ world_of packets →
+    IsTaken wire_plan mode 1 packet old new → HasTaken mode packets packet new
+taken_shown mode packets packet old new was taken =
+    let from : taken.from ≡ 0 = from_zero taken.from taken.linked in
+    let waits : taken.packets ≡ packets =
+    inside (sym taken.waits ∙ ap (slice_get old.waiting) from ∙ ap (λ (w : World). slice_get w.waiting 0) was) in
     record {
-      front = leads.takes.front;
-      rest = leads.takes.rest;
-      stood = sym waits ∙ leads.takes.stood;
-      first = leads.takes.first;
-      next = subst (IsNext mode packet) waits leads.next;
-      left = leads.leaves ∙ ap (λ (f : ℕ). with_waiting old f leads.left) from ∙ ap (λ (w : World). with_waiting w 0 leads.left) was ∙ ap world_of leads.takes.taken;
+      front = taken.takes.front;
+      rest = taken.takes.rest;
+      stood = sym waits ∙ taken.takes.stood;
+      first = taken.takes.first;
+      next = subst (IsNext mode packet) waits taken.next;
+      left = taken.leaves ∙ ap (λ (f : ℕ). with_waiting old f taken.others) from
+          ∙ ap (λ (w : World). with_waiting w 0 taken.others) was ∙ ap world_of taken.takes.taken;
     }
 
+after_delivery : (mode : Mode) (packets : List ℕ) (packet : ℕ) (old new : World) (event : Event) →
+    old ≡ world_of packets → Leads wire_plan mode old (Deliver 1 packet []) event new → HasTaken mode packets packet new
+after_delivery mode packets packet old new event was (inl leads) =
+    taken_shown mode packets packet old new was leads.taken
+after_delivery mode packets packet old new event was (inr leads) = absurd (no_port 1 leads.box leads.port leads.at_port)
+
 -- the first copy of the head is the head
-head_is_first : (packet : ℕ) (packets front rest : List ℕ) → packet ∷ packets ≡ front ++ (packet ∷ rest) → (Contains front packet → ⊥) → front ++ rest ≡ packets
+head_is_first : (packet : ℕ) (packets front rest : List ℕ) → packet ∷ packets ≡ front ++ (packet ∷ rest) →
+    (Contains front packet → ⊥) → front ++ rest ≡ packets
 head_is_first packet packets [] rest e first = cc
 head_is_first packet packets (x ∷ front) rest e first =
-    let same : packet ≡ x = cc in absurd (first (subst (λ (n : ℕ). Contains (n ∷ front) packet) same (head_contained packet front)))
+    let same : packet ≡ x =
+    cc in absurd (first (subst (λ (n : ℕ). Contains (n ∷ front) packet) same (head_contained packet front)))
 
 nothing_first : (packet : ℕ) (front rest : List ℕ) → [] ≡ front ++ (packet ∷ rest) → ⊥
 nothing_first packet [] rest e = absurd (cc)
 nothing_first packet (x ∷ front) rest e = absurd (cc)
 
-head_taken : (mode : Mode) (packet : ℕ) (packets : List ℕ) (new : World) → HasTaken mode (packet ∷ packets) packet new → new ≡ world_of packets
-head_taken mode packet packets new taken = taken.left ∙ ap world_of (head_is_first packet packets taken.front taken.rest taken.stood taken.first)
+head_taken : (mode : Mode) (packet : ℕ) (packets : List ℕ) (new : World) → HasTaken mode (packet ∷ packets) packet new →
+    new ≡ world_of packets
+head_taken mode packet packets new taken =
+    taken.left ∙ ap world_of (head_is_first packet packets taken.front taken.rest taken.stood taken.first)
 
 pub no_third_delivery : NoThirdDelivery
 no_third_delivery mode events last run =
     let one = run.5 in let two = one.5 in let three = two.5 in let four = three.5 in
     let w1 : run.2 ≡ world_of (0 ∷ []) = after_send mode [] 0 (first_world wire_plan) run.2 run.0 refl run.4 in
     let w2 : one.2 ≡ world_of (0 ∷ 0 ∷ []) = after_send mode (0 ∷ []) 0 run.2 one.2 one.0 w1 one.4 in
-    let w3 : two.2 ≡ world_of (0 ∷ []) = head_taken mode 0 (0 ∷ []) two.2 (after_delivery mode (0 ∷ 0 ∷ []) 0 one.2 two.2 two.0 w2 two.4) in
-    let w4 : three.2 ≡ world_of [] = head_taken mode 0 [] three.2 (after_delivery mode (0 ∷ []) 0 two.2 three.2 three.0 w3 three.4) in
+    let w3 : two.2 ≡ world_of (0 ∷ []) =
+    head_taken mode 0 (0 ∷ []) two.2 (after_delivery mode (0 ∷ 0 ∷ []) 0 one.2 two.2 two.0 w2 two.4) in
+    let w4 : three.2 ≡ world_of [] =
+    head_taken mode 0 [] three.2 (after_delivery mode (0 ∷ []) 0 two.2 three.2 three.0 w3 three.4) in
     let taken = after_delivery mode [] 0 three.2 four.2 four.0 w4 four.4 in
     nothing_first 0 taken.front taken.rest taken.stood
 
 not_zero : Contains {X = ℕ} (0 ∷ []) 1 → ⊥
-not_zero there = elim (contained_cases 0 1 [] there) [ inl same ↦ absurd (omega arith) | inr none ↦ none_contained 1 none ]
+not_zero there =
+    elim (contained_cases 0 1 [] there) [ inl same ↦ absurd (omega arith) | inr none ↦ none_contained 1 none ]
 
 abbrev both : List (Option ℕ)
 both = Some 0 ∷ Some 1 ∷ None ∷ None ∷ None ∷ None ∷ None ∷ None ∷ []
@@ -285,8 +327,8 @@ bad_run_by_hand = (
         ),
       ),
     );
-    bad = forbids_one;
-    good = not_forbids_zero;
+    bad = (lit< tt, forbids_one);
+    good = λ bad. not_forbids_zero bad.1;
   },
 )
 
@@ -299,23 +341,34 @@ no_ordered_bad_run events last run =
     let head : 0 ∷ 1 ∷ [] ≡ 1 ∷ taken.next.0 = taken.next.1 in
     let no : ◌≡◌ {A = ℕ} 0 1 = cc in absurd (omega arith)
 
-at_sender : (mode : Mode) (events : List Event) (last : World) → Run wire_plan mode (first_world wire_plan) (Send 0 0 ∷ Deliver 0 0 [] ∷ []) events last → ⊥
+nothing_back : (mode : Mode) (old new : World) → old ≡ world_of (0 ∷ []) → IsTaken wire_plan mode 0 0 old new → ⊥
+nothing_back mode old new was taken =
+    let from : taken.from ≡ 1 = from_one taken.from taken.linked in
+    let waits : taken.packets ≡ [] =
+    inside (sym taken.waits ∙ ap (slice_get old.waiting) from ∙ ap (λ (w : World). slice_get w.waiting 1) was) in
+    nothing_first 0 taken.takes.front taken.takes.rest (sym waits ∙ taken.takes.stood)
+
+at_sender : (mode : Mode) (events : List Event) (last : World) →
+    Run wire_plan mode (first_world wire_plan) (Send 0 0 ∷ Deliver 0 0 [] ∷ []) events last → ⊥
 at_sender mode events last run =
     let one = run.5 in
-    let leads = one.4 in
     let w1 : run.2 ≡ world_of (0 ∷ []) = after_send mode [] 0 (first_world wire_plan) run.2 run.0 refl run.4 in
-    let from : leads.from ≡ 1 = from_one leads.from leads.linked in
-    let waits : waiting_at run.2 leads.from ≡ [] = ap (waiting_at run.2) from ∙ ap (λ (w : World). waiting_at w 1) w1 in
-    nothing_first 0 leads.takes.front leads.takes.rest (sym waits ∙ leads.takes.stood)
+    elim one.4 [
+      | inl leads ↦ nothing_back mode run.2 one.2 w1 leads.taken
+      | inr leads ↦ no_port 0 leads.box leads.port leads.at_port
+    ]
 
 unmatched : (mode : Mode) (old new : World) (event : Event) → Leads wire_plan mode old (Send 0 2) event new → ⊥
-unmatched mode old new event leads = let no : ◌≡◌ {A = ℕ} 1 0 = sym field-2-0 ∙ sent_first 2 leads.sends in absurd (omega arith)
+unmatched mode old new event leads =
+    let no : ◌≡◌ {A = ℕ} 1 0 = sym field-2-0 ∙ sent_first 2 leads.sends in absurd (omega arith)
 
-without_pattern : (mode : Mode) (old new : World) (packet : ℕ) (event : Event) → Leads wire_plan mode old (Send 1 packet) event new → ⊥
+without_pattern : (mode : Mode) (old new : World) (packet : ℕ) (event : Event) →
+    Leads wire_plan mode old (Send 1 packet) event new → ⊥
 without_pattern mode old new packet event leads = let none : leads.sends.0 < 0 = leads.sends.2 in absurd (omega arith)
 
 pub nothing_else_enabled : NothingElseEnabled
-nothing_else_enabled mode = record { at_sender = at_sender mode; unmatched = unmatched mode; without_pattern = without_pattern mode }
+nothing_else_enabled mode =
+    record { at_sender = at_sender mode; unmatched = unmatched mode; without_pattern = without_pattern mode }
 
 -- a packet whose first field is 0
 below_two : (packet : ℕ) → packet < 4 → field_of sizes packet 0 ≡ 0 → (packet ≡ 0) ⊎ (packet ≡ 1)
@@ -347,8 +400,10 @@ starts_sent (Out end packet) (zero, at, less, sends) =
       | inr same ↦ (1, lit< tt, ap (λ (p : ℕ). Out 0 p) (sym same) ∙ ap (λ (e : ℕ). Out e packet) (sym is))
     ]
 starts_sent (Out end packet) (suc zero, at, less, sends) = let none : sends.0 < 0 = sends.2 in absurd (omega arith)
-starts_sent (Out zero packet) (suc (suc host), at, less, sends) = absurd (let is : 0 ≡ suc (suc host) = ends_apart 0 (suc (suc host)) at in omega (arith, is))
-starts_sent (Out (suc zero) packet) (suc (suc host), at, less, sends) = absurd (let is : 1 ≡ suc (suc host) = ends_apart 1 (suc (suc host)) at in omega (arith, is))
+starts_sent (Out zero packet) (suc (suc host), at, less, sends) =
+    absurd (let is : 0 ≡ suc (suc host) = ends_apart 0 (suc (suc host)) at in omega (arith, is))
+starts_sent (Out (suc zero) packet) (suc (suc host), at, less, sends) =
+    absurd (let is : 1 ≡ suc (suc host) = ends_apart 1 (suc (suc host)) at in omega (arith, is))
 starts_sent (Out (suc (suc end)) packet) (suc (suc host), at, less, sends) = absurd (cc)
 starts_sent (State box packet mask) starts = absurd starts
 starts_sent (Abort box packet) starts = absurd starts
@@ -362,17 +417,29 @@ sent_rising (suc i) j d less in' = absurd (omega arith)
 sent_least : DerivableIsSent → IsLeast safe_wire_plan sent
 sent_least law = record {
   rising = sent_rising;
-  member = λ fact. (λ there. (law safe_wire_plan fact refl).1 (sent_starts fact there), λ derivable. starts_sent fact ((law safe_wire_plan fact refl).0 derivable));
+  member = λ fact. (
+    λ there. (law safe_wire_plan fact refl).1 (sent_starts fact there),
+    λ derivable. starts_sent fact ((law safe_wire_plan fact refl).0 derivable),
+  );
 }
 
-sent_good_packet : (packet : ℕ) → field_of sizes packet 0 ≡ 0 → (fact : Fact) → Out 0 packet ≡ fact → IsBad safe_wire_plan fact → ⊥
+sent_good_packet : (packet : ℕ) → field_of sizes packet 0 ≡ 0 → (fact : Fact) → Out 0 packet ≡ fact →
+    IsBad safe_wire_plan fact → ⊥
 sent_good_packet packet has fact same bad = good (subst (IsBad safe_wire_plan) (sym same) bad)
   where
     good : IsForbiddenDelivery safe_wire_plan 0 packet → ⊥
     good (host, other, linked, at, forbids) =
-        let one : host ≡ 1 = sym (ends_apart other host at) ∙ elim (linked_to 0 other linked) [ inl here ↦ here.1 | inr here ↦ absurd (let no : ◌≡◌ {A = ℕ} 0 1 = here.0 in omega arith) ] in
+        let one : host ≡ 1 =
+        sym (ends_apart other host at)
+        ∙ elim
+        (linked_to 0 other linked) [
+          | inl here ↦ here.1
+          | inr here ↦ absurd
+              (let no : ◌≡◌ {A = ℕ} 0 1 = here.0 in omega arith)
+        ] in
         let here : Forbids safe_wire_plan 1 packet = subst (λ (h : ℕ). Forbids safe_wire_plan h packet) one forbids in
-        let field : field_of sizes packet 0 ≡ 1 = first_of_match packet 1 (one_pattern (λ pattern. Matches sizes pattern packet) (first_is 1) here) in
+        let field : field_of sizes packet 0 ≡ 1 =
+        first_of_match packet 1 (one_pattern (λ pattern. Matches sizes pattern packet) (first_is 1) here) in
         let no : ◌≡◌ {A = ℕ} 0 1 = sym has ∙ field in absurd (omega arith)
 
 sent_good : (fact : Fact) → Contains sent fact → IsBad safe_wire_plan fact → ⊥

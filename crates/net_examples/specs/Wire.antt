@@ -32,7 +32,8 @@ crossed = Send 0 0 ∷ Send 0 1 ∷ Deliver 1 1 [] ∷ Deliver 1 0 [] ∷ []
 
 -- a run with one bad event, the first delivery
 pub record IsCrossedRun (last : World) : Type 0 where
-  pub run : Run wire_plan Unordered (first_world wire_plan) crossed (Moved ∷ Moved ∷ Delivered 1 1 ∷ Delivered 1 0 ∷ []) last
+  pub run : Run wire_plan Unordered (first_world wire_plan) crossed
+      (Moved ∷ Moved ∷ Delivered 1 1 ∷ Delivered 1 0 ∷ []) last
   pub bad : IsBadEvent wire_plan (Delivered 1 1)
   pub good : IsBadEvent wire_plan (Delivered 1 0) → ⊥
 
@@ -40,13 +41,16 @@ abbrev pub BadRunByHand : Type 0
 BadRunByHand = (last : World) × IsCrossedRun last
 
 abbrev pub NoOrderedBadRun : Type 0
-NoOrderedBadRun = (events : List Event) (last : World) → Run wire_plan Ordered (first_world wire_plan) crossed events last → ⊥
+NoOrderedBadRun =
+    (events : List Event) (last : World) → Run wire_plan Ordered (first_world wire_plan) crossed events last → ⊥
 
 -- what was sent by host 0 doesn't wait at its own end, host 0 has no pattern for packet 2, and host 1 has none at all
 pub record NothingElse (mode : Mode) : Type 0 where
-  pub at_sender : (events : List Event) (last : World) → Run wire_plan mode (first_world wire_plan) (Send 0 0 ∷ Deliver 0 0 [] ∷ []) events last → ⊥
+  pub at_sender : (events : List Event) (last : World) →
+      Run wire_plan mode (first_world wire_plan) (Send 0 0 ∷ Deliver 0 0 [] ∷ []) events last → ⊥
   pub unmatched : (old new : World) (event : Event) → Leads wire_plan mode old (Send 0 2) event new → ⊥
-  pub without_pattern : (old new : World) (packet : ℕ) (event : Event) → Leads wire_plan mode old (Send 1 packet) event new → ⊥
+  pub without_pattern : (old new : World) (packet : ℕ) (event : Event) →
+      Leads wire_plan mode old (Send 1 packet) event new → ⊥
 
 abbrev pub NothingElseEnabled : Type 0
 NothingElseEnabled = (mode : Mode) → NothingElse mode
@@ -59,8 +63,18 @@ safe_wire_plan = record {
   fields = record { name = codes "src"; kind = 0 } ∷ record { name = codes "dst"; kind = 0 } ∷ [];
   classes = [];
   hosts =
-      record { name = codes "p"; sends = (Some 0 ∷ None ∷ None ∷ None ∷ None ∷ None ∷ None ∷ None ∷ []) ∷ []; forbids = [] }
-      ∷ record { name = codes "q"; sends = []; forbids = (Some 1 ∷ None ∷ None ∷ None ∷ None ∷ None ∷ None ∷ None ∷ []) ∷ [] }
+      record {
+        name = codes "p";
+        sends = (Some 0 ∷ None ∷ None ∷ None ∷ None ∷ None ∷ None ∷ None ∷ [])
+            ∷ [];
+        forbids = [];
+      }
+      ∷ record {
+        name = codes "q";
+        sends = [];
+        forbids = (Some 1 ∷ None ∷ None ∷ None ∷ None ∷ None ∷ None ∷ None ∷ [])
+            ∷ [];
+      }
       ∷ [];
   boxes = [];
   links = record { one = 0; two = 1 } ∷ [];

@@ -1,10 +1,15 @@
-//! Runs of two hosts on a wire, and the ends and cells of a network with boxes, worked out by hand. Each is the contract of
-//! a function that does nothing.
+//! Runs of two hosts on a wire and of a box that is linked to itself, and the ends and cells of a network with boxes,
+//! worked out by hand. Each is the contract of a function that does nothing.
 #![tactic(auto)]
 
-ghost use Rattle.net_examples.specs.Wire.{TwiceDelivered, NoThirdDelivery, BadRunByHand, NoOrderedBadRun, NothingElseEnabled, SafeWireRunsSafely};
-ghost use Rattle.net_examples.specs.Boxes.{EndsByHand, PartnersByHand, NamesByHand, CellsByHand, BadByHand};
+ghost use Rattle.net_examples.specs.Wire.{TwiceDelivered, NoThirdDelivery, BadRunByHand, NoOrderedBadRun};
+ghost use Rattle.net_examples.specs.Wire.{NothingElseEnabled, SafeWireRunsSafely};
+ghost use Rattle.net_examples.specs.Loop.{LoopStepsByHand, AbortedRunByHand};
+ghost use Rattle.net_examples.specs.Boxes.{BoxesAreSound, EndsByHand, PartnersByHand, NamesByHand, CellsByHand};
+ghost use Rattle.net_examples.specs.Boxes.{BadByHand};
 
+use box_executions::{guard_meanings, statement_meanings};
+use box_handlers::{bodies_are_read, formulas_are_read};
 use net_plan::laws::derivable_is_sent;
 use net_runs::laws::safe_network_runs_safely;
 
@@ -39,6 +44,30 @@ pub fn safe_wire_runs_safely()
 {
     derivable_is_sent();
     safe_network_runs_safely();
+}
+
+/// Steps at a box that is linked to itself: a gate, a way round, an abort and a revert.
+pub fn loop_steps_by_hand()
+    ensures { LoopStepsByHand }
+{
+    guard_meanings();
+    statement_meanings();
+}
+
+/// A packet goes round and is aborted, which is bad.
+pub fn aborted_run_by_hand()
+    ensures { AbortedRunByHand }
+{
+    guard_meanings();
+    statement_meanings();
+}
+
+/// The plan of a network with two boxes is sound.
+pub fn boxes_are_sound()
+    ensures { BoxesAreSound }
+{
+    bodies_are_read();
+    formulas_are_read();
 }
 
 /// The ends of a network with two boxes.
