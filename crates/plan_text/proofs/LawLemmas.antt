@@ -1,5 +1,6 @@
 -- Lines of a report, and what their first bytes tell.
-use Rattle.std.proofs.Common.{◌≡◌, ◌≢◌, ℕ, true, nat_le, List, [], ◌∷◌, ◌++◌, length, drop, get_or, refl, sym, ap, ◌∙◌, append_assoc, ⊎_elim, arith}
+use Rattle.std.proofs.Common.{◌≡◌, ◌≢◌, ℕ, true, nat_le, List, [], ◌∷◌, ◌++◌, length, drop, get_or, refl, sym, ap, ◌∙◌}
+use Rattle.std.proofs.Common.{append_assoc, ⊎_elim, arith}
 use Rattle.std.specs.Prelude.{codes}
 use Rattle.std.specs.Fmt.{decimal}
 use Rattle.std.specs.List.{list_all}
@@ -11,7 +12,8 @@ use Rattle.amdl_tree.proofs.WordLemmas.{name-no_byte}
 use Rattle.net_plan.specs.Plan.{packets_of, boxes_of}
 use Rattle.net_plan.specs.declared.plan.Plan.{Plan}
 use Rattle.net_plan.specs.declared.fact.Fact.{Fact}
-use Rattle.plan_text.specs.Text.{network_line, facts_line, verdict_text, report_of, count_of_outs, count_of_states, count_of_aborts}
+use Rattle.plan_text.specs.Text.{network_line, facts_line, verdict_text, report_of, count_of_outs, count_of_states}
+use Rattle.plan_text.specs.Text.{count_of_aborts}
 use Rattle.plan_text.specs.Prints.{IsOneLine, PrintsSafe}
 use Rattle.plan_text.specs.Laws.{SaysSafe}
 use Rattle.plan_text.proofs.DigitLemmas.{decimal-one_line}
@@ -28,7 +30,8 @@ one_line_append a b first second ends = ⊎_elim first second (Contains-append_c
 -- printable bytes end no line
 printable_one_line : (text : List ℕ) → list_all (nat_le 32) text ≡ true → IsOneLine text
 printable_one_line text printable ends =
-    let high : nat_le 32 10 ≡ true = All-contains (λ b. nat_le 32 b ≡ true) text 10 (AllPass-from_list_all (nat_le 32) text printable) ends in
+    let high : nat_le 32 10 ≡ true =
+    All-contains (λ b. nat_le 32 b ≡ true) text 10 (AllPass-from_list_all (nat_le 32) text printable) ends in
     absurd (cc)
 
 -- the first line of a text is settled, and what stands behind it
@@ -52,23 +55,32 @@ behind_two_lines a b c d x y p q r s e =
     (lines_split b d x y q s first.1).1
 
 -- a word, a number, a word, a number
-numbers_one_line : (front word : List ℕ) (n : ℕ) → IsOneLine front → list_all (nat_le 32) word ≡ true → IsOneLine (front ++ word ++ decimal n)
+numbers_one_line : (front word : List ℕ) (n : ℕ) → IsOneLine front → list_all (nat_le 32) word ≡ true →
+    IsOneLine (front ++ word ++ decimal n)
 numbers_one_line front word n first printable =
-    one_line_append (front ++ word) (decimal n) (one_line_append front word first (printable_one_line word printable)) (decimal-one_line n)
+    one_line_append (front ++ word) (decimal n) (one_line_append front word first (printable_one_line word printable))
+    (decimal-one_line n)
 
 pub network_line-one_line : (plan : Plan) → IsName plan.name → IsOneLine (network_line plan)
 network_line-one_line plan named =
-    let head = one_line_append (codes "network ") plan.name (printable_one_line (codes "network ") refl) (name-no_byte plan.name 10 named refl) in
+    let head =
+    one_line_append (codes "network ") plan.name (printable_one_line (codes "network ") refl)
+    (name-no_byte plan.name 10 named refl) in
     let hosts = numbers_one_line (codes "network " ++ plan.name) (codes " hosts ") (length plan.hosts) head refl in
-    let boxes = numbers_one_line (codes "network " ++ plan.name ++ codes " hosts " ++ decimal (length plan.hosts)) (codes " boxes ") (boxes_of plan) hosts refl in
+    let boxes =
+    numbers_one_line (codes "network " ++ plan.name ++ codes " hosts " ++ decimal (length plan.hosts))
+    (codes " boxes ") (boxes_of plan) hosts refl in
     numbers_one_line
-    (codes "network " ++ plan.name ++ codes " hosts " ++ decimal (length plan.hosts) ++ codes " boxes " ++ decimal (boxes_of plan))
+    (codes "network " ++ plan.name ++ codes " hosts " ++ decimal (length plan.hosts) ++ codes " boxes "
+    ++ decimal (boxes_of plan))
     (codes " packets ") (packets_of plan) boxes refl
 
 pub facts_line-one_line : (facts : List Fact) → IsOneLine (facts_line facts)
 facts_line-one_line facts =
     let outs = numbers_one_line [] (codes "facts out ") (count_of_outs facts) (printable_one_line [] refl) refl in
-    let states = numbers_one_line (codes "facts out " ++ decimal (count_of_outs facts)) (codes " state ") (count_of_states facts) outs refl in
+    let states =
+    numbers_one_line (codes "facts out " ++ decimal (count_of_outs facts)) (codes " state ")
+    (count_of_states facts) outs refl in
     numbers_one_line
     (codes "facts out " ++ decimal (count_of_outs facts) ++ codes " state " ++ decimal (count_of_states facts))
     (codes " abort ") (count_of_aborts facts) states refl
@@ -86,7 +98,8 @@ safe_tells plan facts (fact ∷ others) front rest named whole prints =
     let same : verdict ≡ prints.third ++ rest =
     behind_two_lines (network_line plan) (facts_line facts) prints.first prints.second verdict (prints.third ++ rest)
     (network_line-one_line plan named) (facts_line-one_line facts) prints.first_ends prints.second_ends
-    (whole ∙ ap (λ t. t ++ rest) prints.lines ∙ append_assoc (line prints.first ++ line prints.second) prints.third rest) in
+    (whole ∙ ap (λ t. t ++ rest) prints.lines
+    ∙ append_assoc (line prints.first ++ line prints.second) prints.third rest) in
     let safe : verdict ≡ codes "SAFE" ++ (prints.safe.0 ++ rest) =
     same ∙ ap (λ t. t ++ rest) prints.safe.1 ∙ append_assoc (codes "SAFE") prints.safe.0 rest in
     absurd (alarm_is_not_safe (drop 6 verdict) (prints.safe.0 ++ rest) safe)

@@ -1,5 +1,6 @@
 -- Texts with commas between, one for each number from 0.
-use Rattle.std.proofs.Common.{◌≡◌, ℕ, zero, suc, ◌+◌, ◌-◌, ◌<◌, ◌≤◌, List, [], ◌∷◌, ◌++◌, length, map, sym, ap, ◌∙◌, append_assoc, append-nil, arith}
+use Rattle.std.proofs.Common.{◌≡◌, ℕ, zero, suc, ◌+◌, ◌-◌, ◌<◌, ◌≤◌, List, [], ◌∷◌, ◌++◌, length, map, sym, ap, ◌∙◌}
+use Rattle.std.proofs.Common.{append_assoc, append-nil, arith}
 use Rattle.std.specs.Prelude.{codes}
 use Rattle.std.specs.List.{flat_map, range_with_len}
 use Rattle.std.proofs.lemmas.List.Concat.{flat_map-append}
@@ -46,7 +47,8 @@ up_to_first f n some =
     (others.0, ap (up_to f) place ∙ others.1 ∙ ap (λ t. t ++ others.0) (append-nil (f 0)))
 
 -- behind the first k texts comes the next
-pub up_to_at : (f : ℕ → List ℕ) (k n : ℕ) → 1 ≤ k → k < n → (rest : List ℕ) × (up_to f n ≡ up_to f k ++ (codes ", " ++ (f k ++ rest)))
+pub up_to_at : (f : ℕ → List ℕ) (k n : ℕ) → 1 ≤ k → k < n →
+    (rest : List ℕ) × (up_to f n ≡ up_to f k ++ (codes ", " ++ (f k ++ rest)))
 up_to_at f k n some below =
     let others = up_to_front f (k + 1) (n - (k + 1)) (omega arith) in
     let place : n ≡ k + 1 + (n - (k + 1)) = omega arith in (

@@ -1,10 +1,10 @@
--- What a printed text tells, and the report of the wire network by hand.
+-- What a printed text tells, and two reports by hand.
 use Rattle.std.specs.Prelude.{◌≡◌, ◌++◌, ℕ, List, [], ◌∷◌, codes}
 use Rattle.amdl_tree.specs.Word.{IsName}
 use Rattle.amdl_tree.specs.Layout.{line}
 use Rattle.net_plan.specs.declared.plan.Plan.{Plan}
 use Rattle.net_plan.specs.declared.fact.Fact.{Fact}
-use Rattle.net_plan.specs.declared.fact.Fact.TheVariants.{Out}
+use Rattle.net_plan.specs.declared.fact.Fact.TheVariants.{Out, State, Abort}
 use Rattle.net_plan.specs.Laws.{wire_plan}
 use Rattle.plan_text.specs.declared.refusal.NetworkRefusal.{NetworkRefusal}
 use Rattle.plan_text.specs.Text.{network_line, facts_line, report_of}
@@ -48,3 +48,24 @@ WireReport =
     ++ line (codes "facts out 2 state 0 abort 0")
     ++ line (codes "ALARM 1")
     ++ line (codes "deliver q 1 from p : src = a, dst = b")
+
+-- the wire with a box in it: p is linked to w.inner, and w.outer, which is end 3, to q
+abbrev pub boxed_wire_plan : Plan
+boxed_wire_plan = record wire_plan {
+  classes =
+      record { ports = codes "inner" ∷ codes "outer" ∷ []; relations = []; handlers = [] ∷ [] ∷ []; queries = [] } ∷ [];
+  boxes = record { name = codes "w"; class = 0; first = [] } ∷ [];
+  links = record { one = 0; two = 2 } ∷ record { one = 3; two = 1 } ∷ [];
+}
+
+-- of some facts of each kind two are bad: packet 1 is put out at w.outer, and w aborts at packet 2
+abbrev pub BoxedWireReport : Type 0
+BoxedWireReport =
+    report_of boxed_wire_plan
+    (Out 0 1 ∷ Out 0 2 ∷ Out 3 1 ∷ State 0 1 0 ∷ State 0 2 0 ∷ Abort 0 2 ∷ [])
+    (Out 3 1 ∷ Abort 0 2 ∷ [])
+    ≡ line (codes "network wire hosts 2 boxes 1 packets 4")
+    ++ line (codes "facts out 3 state 2 abort 1")
+    ++ line (codes "ALARM 2")
+    ++ line (codes "deliver q 1 from w.outer : src = a, dst = b")
+    ++ line (codes "abort w 2 : src = b, dst = a")

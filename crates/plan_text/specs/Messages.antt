@@ -2,7 +2,8 @@
 use Rattle.std.specs.Prelude.{ℕ, List, ◌++◌, codes, decimal}
 use Rattle.amdl_tree.specs.Layout.{line}
 use Rattle.plan_text.specs.declared.refusal.NetworkRefusal.{NetworkRefusal}
-use Rattle.plan_text.specs.declared.refusal.NetworkRefusal.TheVariants.{TooLong, BadByte, WordTooLong, TooManyTokens, Syntax, Deep, FirstForm}
+use Rattle.plan_text.specs.declared.refusal.NetworkRefusal.TheVariants.{TooLong, BadByte, WordTooLong, TooManyTokens}
+use Rattle.plan_text.specs.declared.refusal.NetworkRefusal.TheVariants.{Syntax, Deep, FirstForm}
 
 -- how a call is written, and the verbs
 abbrev pub usage_text : List ℕ

@@ -1,5 +1,6 @@
 -- The lines that are printed of a network, without their end of line, and the report that is made of them.
-use Rattle.std.specs.Prelude.{ℕ, ◌-◌, ◌<◌, Bool, true, false, List, [], ◌∷◌, ◌++◌, length, map, take, codes, decimal, count_by, nat_lt, if◌then◌else◌, slice_get, slice_index_or, Option, Some, None}
+use Rattle.std.specs.Prelude.{ℕ, ◌-◌, ◌<◌, Bool, true, false, List, [], ◌∷◌, ◌++◌, length, map, take, codes, decimal}
+use Rattle.std.specs.Prelude.{count_by, nat_lt, if◌then◌else◌, slice_get, slice_index_or, Option, Some, None}
 use Rattle.std.specs.List.{flat_map, range_with_len}
 use Rattle.header_set.specs.Headers.{field_of}
 use Rattle.amdl_tree.specs.Layout.{line, listed}
@@ -82,20 +83,15 @@ text_of_field plan packet k = (field_at plan k).name ++ codes " = " ++ value_nam
 abbrev pub text_of_packet : Plan → ℕ → List ℕ
 text_of_packet plan packet = listed (map (text_of_field plan packet) (range_with_len 0 (length plan.fields)))
 
--- a fact: its kind, its end or box, the number of its packet, and the mask of a state
-abbrev pub text_of_fact : Plan → Fact → List ℕ
-text_of_fact plan (Out end packet) = codes "out " ++ text_of_end plan end ++ codes " " ++ decimal packet
-text_of_fact plan (State box packet mask) =
-    codes "state " ++ text_of_box plan box ++ codes " " ++ decimal packet ++ codes " " ++ decimal mask
-text_of_fact plan (Abort box packet) = codes "abort " ++ text_of_box plan box ++ codes " " ++ decimal packet
-
 -- a delivery up to the end at which the packet was put out
 abbrev pub delivery_start : Plan → ℕ → ℕ → List ℕ
-delivery_start plan host packet = codes "deliver " ++ (host_at plan host).name ++ codes " " ++ decimal packet ++ codes " from "
+delivery_start plan host packet =
+    codes "deliver " ++ (host_at plan host).name ++ codes " " ++ decimal packet ++ codes " from "
 
 -- that a packet is delivered to a host from the end at which it was put out
 abbrev pub deliver_line : Plan → ℕ → ℕ → ℕ → List ℕ
-deliver_line plan host packet end = delivery_start plan host packet ++ text_of_end plan end ++ codes " : " ++ text_of_packet plan packet
+deliver_line plan host packet end =
+    delivery_start plan host packet ++ text_of_end plan end ++ codes " : " ++ text_of_packet plan packet
 
 -- an abort up to the fields of its packet
 abbrev pub abort_start : Plan → ℕ → ℕ → List ℕ
@@ -123,7 +119,8 @@ abbrev pub delivery_line : Plan → Option ℕ → ℕ → ℕ → List ℕ
 delivery_line plan None packet end = []
 delivery_line plan (Some host) packet end = deliver_line plan host packet end
 
--- a bad fact: the delivery of a packet, or an abort; what isn't delivered to a host, and a state, is never bad and has no line
+-- a bad fact: the delivery of a packet, or an abort; what isn't delivered to a host, and a state, is never bad and has
+-- no line
 abbrev pub bad_line : Plan → Fact → List ℕ
 bad_line plan (Out end packet) = delivery_line plan (host_across plan end) packet end
 bad_line plan (State box packet mask) = []

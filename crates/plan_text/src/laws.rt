@@ -1,5 +1,6 @@
 //! Laws over the definitions, each the contract of a function that does nothing.
 ghost use Rattle.plan_text.specs.Laws.{ReportBegins, SafeIsTold, SafeIsPrinted, MessagesAreNotSafe, WireReport};
+ghost use Rattle.plan_text.specs.Laws.{BoxedWireReport};
 
 /// A report begins with `network`.
 pub fn report_begins()
@@ -24,4 +25,9 @@ pub fn messages_are_not_safe()
 /// The report of two hosts on a wire, as its text.
 pub fn report_of_wire()
     ensures { WireReport }
+{}
+
+/// A report with a delivery from the port of a box and an abort, as its text.
+pub fn report_of_boxed_wire()
+    ensures { BoxedWireReport }
 {}

@@ -2,7 +2,8 @@ ghost use Rattle.std.specs.Prelude.{◌≡◌, ◌<◌, ◌++◌, length, OnOk, 
 ghost use Rattle.amdl_tree.specs.Appends.{AppendsPart};
 ghost use Rattle.net_plan.specs.Plan.{packets_of, boxes_of, box_at, ports_of};
 ghost use Rattle.net_plan.specs.Ends.{ends_of};
-ghost use Rattle.plan_text.specs.Text.{network_line, facts_line, count_of_outs, count_of_states, count_of_aborts, text_of_place, text_of_end, text_of_field, text_of_packet};
+ghost use Rattle.plan_text.specs.Text.{network_line, facts_line, count_of_outs, count_of_states, count_of_aborts};
+ghost use Rattle.plan_text.specs.Text.{text_of_place, text_of_end, text_of_field, text_of_packet};
 
 use crate::digits::Digits;
 use amdl_tree::{NoMemory, put_all};
@@ -108,7 +109,8 @@ fn put_port(network: &Network, b: u32, port: u32, out: &mut Vec<u8>) -> Result<(
     requires boxed { b < boxes_of network.now }
     requires port { port < ports_of network.now (box_at network.now b) }
     ensures ok { OnOk result (out.new.items ≡ out.old.items ++ text_of_place network.now (Place.Port b port)) }
-    ensures err { OnErr result (AppendsPart out.old.items out.new.items (text_of_place network.now (Place.Port b port))) }
+    ensures err { OnErr result
+        (AppendsPart out.old.items out.new.items (text_of_place network.now (Place.Port b port))) }
 {
     let name = network.box_name(b);
     let port_name = network.port_name(b, port);

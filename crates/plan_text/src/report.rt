@@ -4,7 +4,8 @@ ghost use Rattle.amdl_tree.specs.Layout.{line};
 ghost use Rattle.net_plan.specs.Plan.{packets_of, boxes_of};
 ghost use Rattle.net_plan.specs.Ends.{ends_of, IsEndAt};
 ghost use Rattle.amdl_tree.specs.Appends.{AppendsPart};
-ghost use Rattle.plan_text.specs.Text.{bad_line, delivery_line, delivery_start, deliver_line, abort_start, abort_line, host_across, more_text, report_of, verdict_text, IsToHost, HasLine};
+ghost use Rattle.plan_text.specs.Text.{bad_line, delivery_line, delivery_start, deliver_line, abort_start, abort_line};
+ghost use Rattle.plan_text.specs.Text.{host_across, more_text, report_of, verdict_text, IsToHost, HasLine};
 
 use crate::digits::Digits;
 use crate::lines::{put_end, put_facts_line, put_network_line, put_packet};
@@ -62,8 +63,10 @@ fn listed(bad: &[Fact]) -> &[Fact]
 // Appends a line for each of the facts.
 fn put_bad_lines(network: &Network, bad: &[Fact], out: &mut Vec<u8>) -> Result<(), NoMemory>
     requires { All (HasLine network.now) bad.now }
-    ensures ok { OnOk result (out.new.items ≡ out.old.items ++ flat_map (λ fact. line (bad_line network.now fact)) bad.now) }
-    ensures err { OnErr result (AppendsPart out.old.items out.new.items (flat_map (λ fact. line (bad_line network.now fact)) bad.now)) }
+    ensures ok { OnOk result
+        (out.new.items ≡ out.old.items ++ flat_map (λ fact. line (bad_line network.now fact)) bad.now) }
+    ensures err { OnErr result
+        (AppendsPart out.old.items out.new.items (flat_map (λ fact. line (bad_line network.now fact)) bad.now)) }
 {
     for fact in bad {
         put_bad_line(network, *fact, out)?;
@@ -102,8 +105,10 @@ fn put_out(network: &Network, end: u32, packet: u32, out: &mut Vec<u8>) -> Resul
     requires end { end < ends_of network.now }
     requires packet { packet < packets_of network.now }
     requires linked { IsToHost network.now end }
-    ensures ok { OnOk result (out.new.items ≡ out.old.items ++ delivery_line network.now (host_across network.now end) packet end) }
-    ensures err { OnErr result (AppendsPart out.old.items out.new.items (delivery_line network.now (host_across network.now end) packet end)) }
+    ensures ok { OnOk result
+        (out.new.items ≡ out.old.items ++ delivery_line network.now (host_across network.now end) packet end) }
+    ensures err { OnErr result
+        (AppendsPart out.old.items out.new.items (delivery_line network.now (host_across network.now end) packet end)) }
 {
     let host = host_over(network, end);
     put_delivery(network, host, end, packet, out)

@@ -34,7 +34,8 @@ returns-in_err-put_field-2-clause-err c =
     let placed = field_placed plan c.args.packet k c.fields-fields.result c.loop-k.auto.k c.loop-k-test.true count in
     on_err _ (part_after c.args.out.now.items c.put_all.new.out.items c.put_field-in-loop-k.new.out.items
     (up_to f k ++ codes ", ") (f k) placed.0 (text_of_packet plan c.args.packet)
-    (c.in_ok-put_all.ensures.ok ∙ ap (λ t. t ++ codes ", ") c.loop-k.invariant ∙ append_assoc c.args.out.now.items (up_to f k) (codes ", "))
+    (c.in_ok-put_all.ensures.ok ∙ ap (λ t. t ++ codes ", ") c.loop-k.invariant
+    ∙ append_assoc c.args.out.now.items (up_to f k) (codes ", "))
     (placed.1 ∙ sym (append_assoc (up_to f k) (codes ", ") (f k ++ placed.0)))
     c.in_err-put_field-2.ensures.err)
 

@@ -20,7 +20,8 @@ returns-in_err-put_bad_line-clause-err c =
     let behind = flat_map f (drop (i + 1) bad) in
     on_err _ (part_after c.args.out.now.items c.loop-fact.out.items c.put_bad_line.new.out.items
     (flat_map f (take i bad)) text (10 ∷ behind) (flat_map f bad) c.loop-fact.invariant
-    (pieces_at f bad i (Out 0 0) c.loop-fact-test.true ∙ ap (λ t. flat_map f (take i bad) ++ t) (append_assoc text (10 ∷ []) behind))
+    (pieces_at f bad i (Out 0 0) c.loop-fact-test.true
+    ∙ ap (λ t. flat_map f (take i bad) ++ t) (append_assoc text (10 ∷ []) behind))
     c.in_err-put_bad_line.ensures.err)
 
 pub returns-in_err-put_all-clause-err : goal.returns-in_err-put_all-clause-err
@@ -32,7 +33,9 @@ returns-in_err-put_all-clause-err c =
     let behind = flat_map f (drop (i + 1) bad) in
     on_err _ (part_after c.args.out.now.items c.put_bad_line.new.out.items c.put_all.new.out.items
     (flat_map f (take i bad) ++ text) (10 ∷ []) behind (flat_map f bad)
-    (c.in_ok-put_bad_line.ensures.ok ∙ ap (λ t. t ++ text) c.loop-fact.invariant ∙ append_assoc c.args.out.now.items (flat_map f (take i bad)) text)
-    (pieces_at f bad i (Out 0 0) c.loop-fact-test.true ∙ ap (λ t. flat_map f (take i bad) ++ t) (append_assoc text (10 ∷ []) behind)
+    (c.in_ok-put_bad_line.ensures.ok ∙ ap (λ t. t ++ text) c.loop-fact.invariant
+    ∙ append_assoc c.args.out.now.items (flat_map f (take i bad)) text)
+    (pieces_at f bad i (Out 0 0) c.loop-fact-test.true
+    ∙ ap (λ t. flat_map f (take i bad) ++ t) (append_assoc text (10 ∷ []) behind)
     ∙ sym (append_assoc (flat_map f (take i bad)) text (10 ∷ behind)))
     c.in_err-put_all.ensures.err)

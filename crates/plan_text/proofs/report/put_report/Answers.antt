@@ -7,13 +7,16 @@ use Rattle.plan_text.proofs.report.put_report.Goals as goal
 use Rattle.plan_text.proofs.report.put_report.Goals.{After-put_verdict}
 
 -- two lines and a verdict, from the end of the first line on, from the second line on, and from its end on
-from_first_end : (network facts verdict : List ℕ) → line network ++ line facts ++ verdict ≡ network ++ (10 ∷ [] ++ (line facts ++ verdict))
+from_first_end : (network facts verdict : List ℕ) →
+    line network ++ line facts ++ verdict ≡ network ++ (10 ∷ [] ++ (line facts ++ verdict))
 from_first_end network facts verdict = simp append_assoc
 
-from_second : (network facts verdict : List ℕ) → line network ++ line facts ++ verdict ≡ line network ++ (facts ++ (10 ∷ [] ++ verdict))
+from_second : (network facts verdict : List ℕ) →
+    line network ++ line facts ++ verdict ≡ line network ++ (facts ++ (10 ∷ [] ++ verdict))
 from_second network facts verdict = simp append_assoc
 
-from_second_end : (network facts verdict : List ℕ) → line network ++ line facts ++ verdict ≡ line network ++ facts ++ (10 ∷ [] ++ verdict)
+from_second_end : (network facts verdict : List ℕ) →
+    line network ++ line facts ++ verdict ≡ line network ++ facts ++ (10 ∷ [] ++ verdict)
 from_second_end network facts verdict = simp append_assoc
 
 pub returns-in_err-put_network_line-clause-err : goal.returns-in_err-put_network_line-clause-err
@@ -21,15 +24,18 @@ returns-in_err-put_network_line-clause-err c =
     let network = network_line c.args.network.now in
     let facts = facts_line c.args.facts.now in
     let verdict = verdict_text c.args.network.now c.args.bad.now in
-    on_err _ (part_first c.args.out.now.items c.put_network_line.new.out.items network (10 ∷ [] ++ (line facts ++ verdict))
-    (report_of c.args.network.now c.args.facts.now c.args.bad.now) (from_first_end network facts verdict) c.in_err-put_network_line.ensures.err)
+    on_err _ (part_first c.args.out.now.items c.put_network_line.new.out.items network
+    (10 ∷ [] ++ (line facts ++ verdict))
+    (report_of c.args.network.now c.args.facts.now c.args.bad.now)
+    (from_first_end network facts verdict) c.in_err-put_network_line.ensures.err)
 
 pub returns-in_err-put_all-clause-err : goal.returns-in_err-put_all-clause-err
 returns-in_err-put_all-clause-err c =
     let network = network_line c.args.network.now in
     let facts = facts_line c.args.facts.now in
     let verdict = verdict_text c.args.network.now c.args.bad.now in
-    on_err _ (part_after c.args.out.now.items c.put_network_line.new.out.items c.put_all.new.out.items network (10 ∷ []) (line facts ++ verdict)
+    on_err _ (part_after c.args.out.now.items c.put_network_line.new.out.items c.put_all.new.out.items network (10 ∷ [])
+    (line facts ++ verdict)
     (report_of c.args.network.now c.args.facts.now c.args.bad.now)
     c.in_ok-put_network_line.ensures.ok (from_first_end network facts verdict) c.in_err-put_all.ensures.err)
 
@@ -38,9 +44,11 @@ returns-in_err-put_facts_line-clause-err c =
     let network = network_line c.args.network.now in
     let facts = facts_line c.args.facts.now in
     let verdict = verdict_text c.args.network.now c.args.bad.now in
-    on_err _ (part_after c.args.out.now.items c.put_all.new.out.items c.put_facts_line.new.out.items (line network) facts (10 ∷ [] ++ verdict)
+    on_err _ (part_after c.args.out.now.items c.put_all.new.out.items c.put_facts_line.new.out.items
+    (line network) facts (10 ∷ [] ++ verdict)
     (report_of c.args.network.now c.args.facts.now c.args.bad.now)
-    (appended_after c.args.out.now.items c.put_network_line.new.out.items c.put_all.new.out.items network (10 ∷ []) c.in_ok-put_network_line.ensures.ok c.in_ok-put_all.ensures.ok)
+    (appended_after c.args.out.now.items c.put_network_line.new.out.items c.put_all.new.out.items network
+    (10 ∷ []) c.in_ok-put_network_line.ensures.ok c.in_ok-put_all.ensures.ok)
     (from_second network facts verdict) c.in_err-put_facts_line.ensures.err)
 
 pub returns-in_err-put_all-2-clause-err : goal.returns-in_err-put_all-2-clause-err
@@ -48,32 +56,46 @@ returns-in_err-put_all-2-clause-err c =
     let network = network_line c.args.network.now in
     let facts = facts_line c.args.facts.now in
     let verdict = verdict_text c.args.network.now c.args.bad.now in
-    let first = appended_after c.args.out.now.items c.put_network_line.new.out.items c.put_all.new.out.items network (10 ∷ []) c.in_ok-put_network_line.ensures.ok c.in_ok-put_all.ensures.ok in
-    on_err _ (part_after c.args.out.now.items c.put_facts_line.new.out.items c.put_all-2.new.out.items (line network ++ facts) (10 ∷ []) verdict
+    let first =
+    appended_after c.args.out.now.items c.put_network_line.new.out.items c.put_all.new.out.items network
+    (10 ∷ []) c.in_ok-put_network_line.ensures.ok c.in_ok-put_all.ensures.ok in
+    on_err _ (part_after c.args.out.now.items c.put_facts_line.new.out.items c.put_all-2.new.out.items
+    (line network ++ facts) (10 ∷ []) verdict
     (report_of c.args.network.now c.args.facts.now c.args.bad.now)
-    (appended_after c.args.out.now.items c.put_all.new.out.items c.put_facts_line.new.out.items (line network) facts first c.in_ok-put_facts_line.ensures.ok)
+    (appended_after c.args.out.now.items c.put_all.new.out.items c.put_facts_line.new.out.items
+    (line network) facts first c.in_ok-put_facts_line.ensures.ok)
     (from_second_end network facts verdict) c.in_err-put_all-2.ensures.err)
 
 -- both lines stand there before the verdict is put
 both_lines : (c : After-put_verdict) →
-    c.put_all-2.new.out.items ≡ c.args.out.now.items ++ (line (network_line c.args.network.now) ++ line (facts_line c.args.facts.now))
+    c.put_all-2.new.out.items ≡ c.args.out.now.items
+    ++ (line (network_line c.args.network.now) ++ line (facts_line c.args.facts.now))
 both_lines c =
     let network = network_line c.args.network.now in
     let facts = facts_line c.args.facts.now in
-    let first = appended_after c.args.out.now.items c.put_network_line.new.out.items c.put_all.new.out.items network (10 ∷ []) c.in_ok-put_network_line.ensures.ok c.in_ok-put_all.ensures.ok in
-    let second = appended_after c.put_all.new.out.items c.put_facts_line.new.out.items c.put_all-2.new.out.items facts (10 ∷ []) c.in_ok-put_facts_line.ensures.ok c.in_ok-put_all-2.ensures.ok in
-    appended_after c.args.out.now.items c.put_all.new.out.items c.put_all-2.new.out.items (line network) (line facts) first second
+    let first =
+    appended_after c.args.out.now.items c.put_network_line.new.out.items c.put_all.new.out.items network
+    (10 ∷ []) c.in_ok-put_network_line.ensures.ok c.in_ok-put_all.ensures.ok in
+    let second =
+    appended_after c.put_all.new.out.items c.put_facts_line.new.out.items c.put_all-2.new.out.items facts
+    (10 ∷ []) c.in_ok-put_facts_line.ensures.ok c.in_ok-put_all-2.ensures.ok in
+    appended_after c.args.out.now.items c.put_all.new.out.items c.put_all-2.new.out.items (line network)
+    (line facts) first second
 
 pub returns-clause-ok : goal.returns-clause-ok
 returns-clause-ok c =
     let lines = line (network_line c.args.network.now) ++ line (facts_line c.args.facts.now) in
     let verdict = verdict_text c.args.network.now c.args.bad.now in
-    on_ok_weaker _ (appended_after c.args.out.now.items c.put_all-2.new.out.items c.put_verdict.new.out.items lines verdict (both_lines c)) c.put_verdict.ensures.ok
+    on_ok_weaker _
+    (appended_after c.args.out.now.items c.put_all-2.new.out.items c.put_verdict.new.out.items lines verdict
+    (both_lines c)) c.put_verdict.ensures.ok
 
 pub returns-clause-err : goal.returns-clause-err
 returns-clause-err c =
     let lines = line (network_line c.args.network.now) ++ line (facts_line c.args.facts.now) in
     let verdict = verdict_text c.args.network.now c.args.bad.now in
-    on_err_weaker _ (part_after c.args.out.now.items c.put_all-2.new.out.items c.put_verdict.new.out.items lines verdict []
-    (report_of c.args.network.now c.args.facts.now c.args.bad.now) (both_lines c) (ap (λ t. lines ++ t) (sym (append-nil verdict))))
+    on_err_weaker _
+    (part_after c.args.out.now.items c.put_all-2.new.out.items c.put_verdict.new.out.items lines verdict []
+    (report_of c.args.network.now c.args.facts.now c.args.bad.now) (both_lines c)
+    (ap (λ t. lines ++ t) (sym (append-nil verdict))))
     c.put_verdict.ensures.err

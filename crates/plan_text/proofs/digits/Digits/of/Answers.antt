@@ -1,4 +1,5 @@
-use Rattle.std.proofs.Common.{◌≡◌, ◌+◌, ◌-◌, ◌/◌, ◌%◌, ◌^◌, ◌<◌, ◌≤◌, [], ◌∷◌, ◌++◌, length, drop, sym, ap, ◌∙◌, append-nil, refl, arith}
+use Rattle.std.proofs.Common.{◌≡◌, ◌+◌, ◌-◌, ◌/◌, ◌%◌, ◌^◌, ◌<◌, ◌≤◌, [], ◌∷◌, ◌++◌, length, drop, sym, ap, ◌∙◌}
+use Rattle.std.proofs.Common.{append-nil, refl, arith}
 use Rattle.std.specs.Fmt.{decimal}
 use Rattle.std.proofs.lemmas.Fmt.{decimal_step, decimal_digit, decimal_nonempty, length-decimal-le}
 use Rattle.std.proofs.lemmas.List.{length-set}
@@ -15,7 +16,8 @@ loop-left-init c =
     }
 
 pub overflow_sub-start : goal.overflow_sub-start
-overflow_sub-start c = omega (arith, decimal_nonempty c.loop-left.left c.loop-left.auto.left-fits.fits, c.loop-left.invariant.room)
+overflow_sub-start c =
+    omega (arith, decimal_nonempty c.loop-left.left c.loop-left.auto.left-fits.fits, c.loop-left.invariant.room)
 
 pub loop-left-preserved : goal.loop-left-preserved
 loop-left-preserved c =
@@ -33,7 +35,8 @@ loop-left-preserved c =
     }
 
 pub overflow_sub-start-2 : goal.overflow_sub-start-2
-overflow_sub-start-2 c = omega (arith, decimal_nonempty c.loop-left.left c.loop-left.auto.left-fits.fits, c.loop-left.invariant.room)
+overflow_sub-start-2 c =
+    omega (arith, decimal_nonempty c.loop-left.left c.loop-left.auto.left-fits.fits, c.loop-left.invariant.room)
 
 pub returns : goal.returns
 returns c =
@@ -41,4 +44,5 @@ returns c =
     let some : 1 ≤ l.start = omega (arith, decimal_nonempty l.left l.auto.left-fits.fits, l.invariant.room) in
     let within : l.start ≤ length l.bytes = omega (arith, l.invariant.within, l.invariant.size) in
     let one : decimal l.left ≡ (48 + l.left) ∷ [] = decimal_digit l.left c.loop-left-test.false in
-    sym (digit_stored (decimal c.args.n) [] l.bytes (48 + l.left) l.start some within (l.invariant.digits ∙ ap (λ t. t ++ drop l.start l.bytes) one))
+    sym (digit_stored (decimal c.args.n) [] l.bytes (48 + l.left) l.start some within
+    (l.invariant.digits ∙ ap (λ t. t ++ drop l.start l.bytes) one))
