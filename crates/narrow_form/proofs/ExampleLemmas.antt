@@ -1,5 +1,6 @@
 -- The two networks by hand.
-use Rattle.std.proofs.Common.{◌≡◌, ◌≢◌, ◌≤◌, ℕ, List, [], ◌∷◌, codes, Option, Some, None, false, arith, length, refl, sym, ap, ◌∙◌, inl, inr, lit≤, lit<}
+use Rattle.std.proofs.Common.{◌≡◌, ◌≢◌, ◌≤◌, ℕ, List, [], ◌∷◌, codes, Option, Some, None, false, arith, length, refl}
+use Rattle.std.proofs.Common.{sym, ap, ◌∙◌, inl, inr, lit≤, lit<}
 use Rattle.std.specs.List.{All, Contains, find}
 use Rattle.std.proofs.lemmas.List.Kept.{AllPairs-cons}
 use Rattle.std.proofs.lemmas.List.Elements.{All-nil, All-cons, All-from_recursion}
@@ -7,7 +8,10 @@ use Rattle.amdl_tree.specs.Example.{wire, text_of_wire, equal}
 use Rattle.amdl_tree.specs.Word.{IsWord, IsName, spelling_of_reserved}
 use Rattle.amdl_tree.specs.WellBuilt.{IsBuiltEqual, IsBuiltItem}
 use Rattle.amdl_tree.specs.declared.reserved.Reserved.{Reserved}
-use Rattle.amdl_tree.specs.declared.reserved.Reserved.TheVariants.{Network, Kind, Field, Middlebox, Port, Relation, On, Host, Box, With, Link, Sends, Forbid, Insert, Remove, Output, Abort, If, Fi, Pick, In, Has, Not, And, Or, True, Add, Drop, Swap, Verdict, Invariant}
+use Rattle.amdl_tree.specs.declared.reserved.Reserved.TheVariants.{Network, Kind, Field, Middlebox, Port, Relation, On}
+use Rattle.amdl_tree.specs.declared.reserved.Reserved.TheVariants.{Host, Box, With, Link, Sends, Forbid, Insert, Remove}
+use Rattle.amdl_tree.specs.declared.reserved.Reserved.TheVariants.{Output, Abort, If, Fi, Pick, In, Has, Not, And, Or}
+use Rattle.amdl_tree.specs.declared.reserved.Reserved.TheVariants.{True, Add, Drop, Swap, Verdict, Invariant}
 use Rattle.amdl_tree.specs.declared.tree.Equal.{Equal}
 use Rattle.net_plan.specs.Laws.{wire_plan}
 use Rattle.net_plan.specs.Net.{same_name}
@@ -20,7 +24,9 @@ use Rattle.narrow_form.proofs.NameLemmas.{same_name-false}
 use Rattle.narrow_form.proofs.SoundLemmas.{two_apart}
 
 abbrev table : List Reserved
-table = Network ∷ Kind ∷ Field ∷ Middlebox ∷ Port ∷ Relation ∷ On ∷ Host ∷ Box ∷ With ∷ Link ∷ Sends ∷ Forbid ∷ Insert ∷ Remove ∷ Output ∷ Abort ∷ If ∷ Fi ∷ Pick ∷ In ∷ Has ∷ Not ∷ And ∷ Or ∷ True ∷ Add ∷ Drop ∷ Swap ∷ Verdict ∷ Invariant ∷ []
+table = Network ∷ Kind ∷ Field ∷ Middlebox ∷ Port ∷ Relation ∷ On ∷ Host ∷ Box ∷ With ∷ Link ∷ Sends ∷ Forbid ∷ Insert
+    ∷ Remove ∷ Output ∷ Abort ∷ If ∷ Fi ∷ Pick ∷ In ∷ Has ∷ Not ∷ And ∷ Or ∷ True ∷ Add ∷ Drop ∷ Swap ∷ Verdict
+    ∷ Invariant ∷ []
 
 abbrev word_of : List ℕ → Option Reserved
 word_of bytes = find (λ word. same_name bytes (spelling_of_reserved word)) table
@@ -63,7 +69,8 @@ named : (name : List ℕ) → IsWord name → length name ≤ 24 → word_of nam
 named name word short none = record {
   word = word;
   short = short;
-  free = λ reserved e. absurd (let found : None ≡ Some reserved = sym none ∙ ap word_of e ∙ word_of-spelling reserved in cc);
+  free = λ reserved e. absurd
+      (let found : None ≡ Some reserved = sym none ∙ ap word_of e ∙ word_of-spelling reserved in cc);
 }
 
 is_name-wire : IsName (codes "wire")
@@ -123,13 +130,16 @@ terms_apart : AreApart (codes "a" ∷ codes "b" ∷ codes "src" ∷ codes "dst" 
 terms_apart =
     AllPairs-cons Differ (codes "a") (codes "b" ∷ codes "src" ∷ codes "dst" ∷ [])
     (All-cons (Differ (codes "a")) (codes "b") (codes "src" ∷ codes "dst" ∷ []) (differ (codes "a") (codes "b") refl)
-    (double (Differ (codes "a")) (codes "src") (codes "dst") (differ (codes "a") (codes "src") refl) (differ (codes "a") (codes "dst") refl)))
+    (double (Differ (codes "a")) (codes "src") (codes "dst") (differ (codes "a") (codes "src") refl)
+    (differ (codes "a") (codes "dst") refl)))
     (AllPairs-cons Differ (codes "b") (codes "src" ∷ codes "dst" ∷ [])
-    (double (Differ (codes "b")) (codes "src") (codes "dst") (differ (codes "b") (codes "src") refl) (differ (codes "b") (codes "dst") refl))
+    (double (Differ (codes "b")) (codes "src") (codes "dst") (differ (codes "b") (codes "src") refl)
+    (differ (codes "b") (codes "dst") refl))
     (two_apart (codes "src") (codes "dst") (differ (codes "src") (codes "dst") refl)))
 
 -- a pattern of one equation
-one_equation : (forbidden : List Equal) (field value : List ℕ) → Contains (codes "src" ∷ codes "dst" ∷ []) field → Contains (codes "a" ∷ codes "b" ∷ []) value → IsNarrowPattern (wire_parts forbidden) (equal field value ∷ [])
+one_equation : (forbidden : List Equal) (field value : List ℕ) → Contains (codes "src" ∷ codes "dst" ∷ []) field →
+    Contains (codes "a" ∷ codes "b" ∷ []) value → IsNarrowPattern (wire_parts forbidden) (equal field value ∷ [])
 one_equation forbidden field value is_field is_value = record {
   fields = single (λ e. Contains (codes "src" ∷ codes "dst" ∷ []) e.field) (equal field value) is_field;
   values = single (λ e. Contains (codes "a" ∷ codes "b" ∷ []) e.value) (equal field value) is_value;
@@ -155,8 +165,10 @@ wire_fit forbidden pattern = record {
 
 wire_built : (forbidden : List Equal) → All IsBuiltEqual forbidden → All IsBuiltItem (items_of (wire_parts forbidden))
 wire_built forbidden built =
-    let two_values : All IsName (codes "a" ∷ codes "b" ∷ []) = double IsName (codes "a") (codes "b") is_name-a is_name-b in
-    let sent : All IsBuiltEqual (equal (codes "src") (codes "a") ∷ []) = single IsBuiltEqual (equal (codes "src") (codes "a")) (is_name-src, is_name-a) in
+    let two_values : All IsName (codes "a" ∷ codes "b" ∷ []) =
+    double IsName (codes "a") (codes "b") is_name-a is_name-b in
+    let sent : All IsBuiltEqual (equal (codes "src") (codes "a") ∷ []) =
+    single IsBuiltEqual (equal (codes "src") (codes "a")) (is_name-src, is_name-a) in
     All-from_recursion IsBuiltItem (items_of (wire_parts forbidden)) (
       (is_name-addr, (λ e. cc), two_values),
       (
@@ -180,7 +192,8 @@ wire_built forbidden built =
       ),
     )
 
-wire_narrow : (forbidden : List Equal) → All IsBuiltEqual forbidden → IsNarrowPattern (wire_parts forbidden) forbidden → IsNarrow (tree_of (codes "wire") (wire_parts forbidden))
+wire_narrow : (forbidden : List Equal) → All IsBuiltEqual forbidden → IsNarrowPattern (wire_parts forbidden) forbidden →
+    IsNarrow (tree_of (codes "wire") (wire_parts forbidden))
 wire_narrow forbidden built pattern = record {
   built = record { named = is_name-wire; items = wire_built forbidden built };
   parts = wire_parts forbidden;
@@ -193,11 +206,16 @@ wire_network =
     let src_a : Equal = equal (codes "src") (codes "a") in
     let dst_b : Equal = equal (codes "dst") (codes "b") in (
       wire,
-      wire_narrow (src_a ∷ dst_b ∷ []) (double IsBuiltEqual src_a dst_b (is_name-src, is_name-a) (is_name-dst, is_name-b))
+      wire_narrow (src_a ∷ dst_b ∷ [])
+          (double IsBuiltEqual src_a dst_b (is_name-src, is_name-a) (is_name-dst, is_name-b))
           (record {
-            fields = double (λ e. Contains (codes "src" ∷ codes "dst" ∷ []) e.field) src_a dst_b (0, lit< tt, refl) (1, lit< tt, refl);
-            values = double (λ e. Contains (codes "a" ∷ codes "b" ∷ []) e.value) src_a dst_b (0, lit< tt, refl) (1, lit< tt, refl);
-            once = AllPairs-cons (λ one two. one.field ≢ two.field) src_a (dst_b ∷ []) (single (λ two. codes "src" ≢ two.field) dst_b (differ (codes "src") (codes "dst") refl)) (λ i j d below in_range. absurd (omega arith));
+            fields = double (λ e. Contains (codes "src" ∷ codes "dst" ∷ []) e.field) src_a dst_b (0, lit< tt, refl)
+                (1, lit< tt, refl);
+            values = double (λ e. Contains (codes "a" ∷ codes "b" ∷ []) e.value) src_a dst_b (0, lit< tt, refl)
+                (1, lit< tt, refl);
+            once = AllPairs-cons (λ one two. one.field ≢ two.field) src_a (dst_b ∷ [])
+                (single (λ two. codes "src" ≢ two.field) dst_b (differ (codes "src") (codes "dst") refl))
+                (λ i j d below in_range. absurd (omega arith));
           }),
       refl,
       refl,

@@ -5,7 +5,8 @@ use Rattle.std.specs.List.{All}
 use Rattle.std.proofs.lemmas.List.Elements.{All-cons, All-append, All-map, All-weaker, All-from_recursion}
 use Rattle.amdl_tree.specs.WellBuilt.{IsBuiltItem, IsWellBuilt}
 use Rattle.amdl_tree.specs.declared.tree.Item.{Item}
-use Rattle.amdl_tree.specs.declared.tree.Item.TheVariants.{Kind, Field, Class as OfClass, Host, Instance, Link, Sends, Forbid}
+use Rattle.amdl_tree.specs.declared.tree.Item.TheVariants.{Kind, Field, Class as OfClass, Host, Instance, Link, Sends}
+use Rattle.amdl_tree.specs.declared.tree.Item.TheVariants.{Forbid}
 use Rattle.amdl_tree.specs.declared.tree.Tree.{Tree}
 use Rattle.layout_reader.specs.Flat.{IsFlatBuilt, IsFlatTree}
 use Rattle.narrow_form.specs.declared.parts.Parts.{Parts}
@@ -38,7 +39,8 @@ both_item (Sends host pattern) flat built = built
 both_item (Forbid host pattern) flat built = built
 
 pub built_of : (tree : Tree) → IsFlatTree tree → IsWellBuilt tree
-built_of tree flat = record { named = flat.named; items = All-weaker IsFlatBuilt IsBuiltItem built_item tree.items flat.items }
+built_of tree flat =
+    record { named = flat.named; items = All-weaker IsFlatBuilt IsBuiltItem built_item tree.items flat.items }
 
 flat_wiring : (parts : Parts) → All IsFlatItem (wiring_of parts)
 flat_wiring parts = All-from_recursion IsFlatItem (wiring_of parts) (tt, (tt, (tt, (tt, (tt, tt)))))
@@ -49,7 +51,8 @@ flat_fields kind names = All-map IsFlatItem (field_item kind) names (λ k d with
 flat_parts : (parts : Parts) → All IsFlatItem (items_of parts)
 flat_parts parts =
     All-cons IsFlatItem (Kind parts.kind parts.values) (map (field_item parts.kind) parts.fields ++ wiring_of parts) tt
-    (All-append IsFlatItem (map (field_item parts.kind) parts.fields) (wiring_of parts) (flat_fields parts.kind parts.fields) (flat_wiring parts))
+    (All-append IsFlatItem (map (field_item parts.kind) parts.fields) (wiring_of parts)
+    (flat_fields parts.kind parts.fields) (flat_wiring parts))
 
 narrow_flat : (tree : Tree) → IsNarrow tree → All IsFlatItem tree.items
 narrow_flat tree narrow = subst (All IsFlatItem) (sym narrow.items) (flat_parts narrow.parts)
@@ -57,5 +60,6 @@ narrow_flat tree narrow = subst (All IsFlatItem) (sym narrow.items) (flat_parts 
 pub narrow_flat_tree : (tree : Tree) → IsNarrow tree → IsFlatTree tree
 narrow_flat_tree tree narrow = record {
   named = narrow.built.named;
-  items = λ k d within. both_item (slice_index_or tree.items k d) (narrow_flat tree narrow k d within) (narrow.built.items k d within);
+  items = λ k d within. both_item (slice_index_or tree.items k d) (narrow_flat tree narrow k d within)
+      (narrow.built.items k d within);
 }

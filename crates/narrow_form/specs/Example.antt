@@ -42,8 +42,18 @@ safe_wire_plan = record {
   fields = record { name = codes "src"; kind = 0 } ∷ record { name = codes "dst"; kind = 0 } ∷ [];
   classes = [];
   hosts =
-      record { name = codes "p"; sends = (Some 0 ∷ None ∷ None ∷ None ∷ None ∷ None ∷ None ∷ None ∷ []) ∷ []; forbids = [] }
-      ∷ record { name = codes "q"; sends = []; forbids = (Some 1 ∷ None ∷ None ∷ None ∷ None ∷ None ∷ None ∷ None ∷ []) ∷ [] }
+      record {
+        name = codes "p";
+        sends = (Some 0 ∷ None ∷ None ∷ None ∷ None ∷ None ∷ None ∷ None ∷ [])
+            ∷ [];
+        forbids = [];
+      }
+      ∷ record {
+        name = codes "q";
+        sends = [];
+        forbids = (Some 1 ∷ None ∷ None ∷ None ∷ None ∷ None ∷ None ∷ None ∷ [])
+            ∷ [];
+      }
       ∷ [];
   boxes = [];
   links = record { one = 0; two = 1 } ∷ [];

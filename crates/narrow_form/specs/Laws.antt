@@ -10,7 +10,8 @@ use Rattle.narrow_form.specs.NarrowForm.{IsNarrow, IsNetworkOf}
 
 -- no two narrow trees have one layout
 abbrev pub NarrowLayoutIsOneToOne : Type 0
-NarrowLayoutIsOneToOne = (one two : Tree) → IsNarrow one → IsNarrow two → layout_of_tree one ≡ layout_of_tree two → one ≡ two
+NarrowLayoutIsOneToOne =
+    (one two : Tree) → IsNarrow one → IsNarrow two → layout_of_tree one ≡ layout_of_tree two → one ≡ two
 
 -- a text spells at most one network
 abbrev pub NetworkIsUnique : Type 0

@@ -20,7 +20,8 @@ field_plan name = record { name = name; kind = 0 }
 
 -- the pattern with one equation more
 abbrev pub fixed_by : Parts → List (Option ℕ) → Equal → List (Option ℕ)
-fixed_by parts pattern equal = slice_set pattern (number_of parts.fields equal.field) (Some (number_of parts.values equal.value))
+fixed_by parts pattern equal =
+    slice_set pattern (number_of parts.fields equal.field) (Some (number_of parts.values equal.value))
 
 abbrev pub pattern_of_equals : Parts → List Equal → List (Option ℕ)
 pattern_of_equals parts equals = fold (fixed_by parts) any_pattern equals

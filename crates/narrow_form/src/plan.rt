@@ -1,6 +1,7 @@
 ghost use Rattle.std.specs.Prelude.{◌≡◌, ◌∷◌, [], map, IfOk};
 ghost use Rattle.narrow_form.specs.NarrowForm.{IsFit};
-ghost use Rattle.narrow_form.specs.NarrowPlan.{only_kind, field_plan, pattern_of_equals, said, host_plan, host_number, only_link, narrow_plan};
+ghost use Rattle.narrow_form.specs.NarrowPlan.{only_kind, field_plan, pattern_of_equals, said, host_plan, host_number};
+ghost use Rattle.narrow_form.specs.NarrowPlan.{only_link, narrow_plan};
 
 use crate::numbers::place_of;
 use crate::parts::Parts;

@@ -6,4 +6,5 @@ use Rattle.narrow_form.proofs.laws.narrow_is_sound.Goals as goal
 
 pub returns : goal.returns
 returns c = λ tree narrow.
-    subst IsSound (sym (net_of_items tree narrow.parts narrow.items)) (sound_narrow tree narrow.parts narrow.built narrow.items narrow.fit)
+    subst IsSound (sym (net_of_items tree narrow.parts narrow.items))
+    (sound_narrow tree narrow.parts narrow.built narrow.items narrow.fit)
