@@ -1,7 +1,0 @@
-use Rattle.std.proofs.Common.{◌≡◌, drop}
-use Rattle.amdl_check.specs.Handlers.{body_for}
-use Rattle.amdl_check.proofs.handlers.body_for.Given as goal
-
--- no handler so far names the port
-abbrev pub invariant-loop-handler : goal.invariant-loop-handler
-invariant-loop-handler l = body_for l.handlers l.port ≡ body_for (drop l.handler-index l.handlers) l.port

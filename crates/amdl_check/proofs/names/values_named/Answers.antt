@@ -1,5 +1,0 @@
-use Rattle.amdl_check.proofs.NameLemmas.{values_lost}
-use Rattle.amdl_check.proofs.names.values_named.Goals as goal
-
-pub returns-in-None : goal.returns-in-None
-returns-in-None c = values_lost c.args.kinds.now c.args.name c.in-Some.place c.in-Some.ensures c.in-None.ensures.lookup.3

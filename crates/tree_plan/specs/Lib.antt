@@ -1,0 +1,11 @@
+pub mod Example
+pub mod Gathered
+pub mod Handlers
+pub mod Laws
+pub mod Marked
+pub mod Names
+pub mod Nested
+pub mod Net
+pub mod Numbers
+pub mod Office
+pub mod Tables
