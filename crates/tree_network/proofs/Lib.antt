@@ -1,0 +1,7 @@
+mod EndLemmas
+mod FieldLemmas
+mod ItemLemmas
+mod PassLemmas
+mod PlaceLemmas
+mod PlanLemmas
+mod TupleLemmas
