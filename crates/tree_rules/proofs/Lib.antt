@@ -1,0 +1,5 @@
+pub mod AnswerLemmas
+pub mod ByHandLemmas
+pub mod Parting
+pub mod UseLemmas
+pub mod WalkLemmas
