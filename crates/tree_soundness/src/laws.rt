@@ -1,0 +1,11 @@
+//! Laws over the definitions, each the contract of a function that does nothing.
+ghost use Rattle.tree_soundness.specs.Laws.{WellFormedIsSound};
+
+use box_contents::with_keeps_rising;
+
+/// A tree as it is read, whose items are well formed, has a network, and the network is sound.
+pub fn well_formed_is_sound()
+    ensures { WellFormedIsSound }
+{
+    with_keeps_rising();
+}

@@ -1,0 +1,6 @@
+//! A well-formed text has a network, and the network is sound.
+#![tactic(auto)]
+
+mod laws;
+
+pub use laws::well_formed_is_sound;
