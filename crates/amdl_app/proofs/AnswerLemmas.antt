@@ -1,5 +1,6 @@
 -- Outcomes of loads have one reply, and words and files one answer.
-use Rattle.std.proofs.Common.{◌≡◌, ℕ, ◌<◌, List, [], ◌∷◌, Some, None, Result, Ok, Err, length, get_or, refl, sym, ap, subst, ◌∙◌, arith, codes}
+use Rattle.std.proofs.Common.{◌≡◌, ℕ, ◌<◌, List, [], ◌∷◌, Some, None, Result, Ok, Err, length, get_or, refl, sym, ap}
+use Rattle.std.proofs.Common.{subst, ◌∙◌, arith, codes}
 use Rattle.narrow_form.specs.Laws.{NarrowLayoutIsOneToOne}
 use Rattle.network_file.specs.Laws.{OneReading}
 use Rattle.network_file.specs.declared.reading.ReadRefusal.{ReadRefusal}
@@ -32,11 +33,14 @@ unfolding verb_of
 not_both words one two first second =
     let letter : ◌≡◌ {A = ℕ} 97 102 = ap verb_of (sym first ∙ second) in omega arith
 
-pub network_is_asked : (words : List (List ℕ)) (one two : List ℕ) → Asks words (Analyse one) → Asks words (Analyse two) → one ≡ two
-network_is_asked words one two first second = let e : codes "analyse" ∷ one ∷ [] ≡ codes "analyse" ∷ two ∷ [] = sym first ∙ second in cc
+pub network_is_asked : (words : List (List ℕ)) (one two : List ℕ) → Asks words (Analyse one) →
+    Asks words (Analyse two) → one ≡ two
+network_is_asked words one two first second =
+    let e : codes "analyse" ∷ one ∷ [] ≡ codes "analyse" ∷ two ∷ [] = sym first ∙ second in cc
 
 pub command_is_asked : (words : List (List ℕ)) (one two : Command) → Asks words one → Asks words two → one ≡ two
-command_is_asked words (Analyse one) (Analyse two) first second = ap Analyse (network_is_asked words one two first second)
+command_is_asked words (Analyse one) (Analyse two) first second =
+    ap Analyse (network_is_asked words one two first second)
 command_is_asked words (Analyse one) (Format two) first second = absurd (not_both words one two first second)
 command_is_asked words (Format one) (Analyse two) first second = absurd (not_both words two one second first)
 command_is_asked words (Format one) (Format two) first second =
@@ -44,21 +48,25 @@ command_is_asked words (Format one) (Format two) first second =
     let same : one ≡ two = cc in ap Format same
 
 -- a map tells one outcome of a load
-found_over : (files : FileMap) (input : Input) (text : List ℕ) → Tells files input (Found text) → Tells files input Over → ⊥
+found_over : (files : FileMap) (input : Input) (text : List ℕ) → Tells files input (Found text) →
+    Tells files input Over → ⊥
 found_over files input text found over =
     let both : Some text ≡ Some over.0 = sym found.1 ∙ over.1 in
     let same : text ≡ over.0 = cc in
     let less : input.limit < length text = subst (λ (t : List ℕ). input.limit < length t) (sym same) over.2 in
     omega (arith, found.0)
 
-found_lacking : (files : FileMap) (input : Input) (text : List ℕ) → Tells files input (Found text) → Tells files input Lacking → ⊥
+found_lacking : (files : FileMap) (input : Input) (text : List ℕ) → Tells files input (Found text) →
+    Tells files input Lacking → ⊥
 found_lacking files input text found lacking = let both : Some text ≡ None = sym found.1 ∙ lacking in cc
 
 over_lacking : (files : FileMap) (input : Input) → Tells files input Over → Tells files input Lacking → ⊥
 over_lacking files input over lacking = let both : Some over.0 ≡ None = sym over.1 ∙ lacking in cc
 
-tells_once : (files : FileMap) (input : Input) (one two : Loaded) → Tells files input one → Tells files input two → one ≡ two
-tells_once files input (Found a) (Found b) p q = let both : Some a ≡ Some b = sym p.1 ∙ q.1 in let same : a ≡ b = cc in ap Found same
+tells_once : (files : FileMap) (input : Input) (one two : Loaded) → Tells files input one → Tells files input two →
+    one ≡ two
+tells_once files input (Found a) (Found b) p q =
+    let both : Some a ≡ Some b = sym p.1 ∙ q.1 in let same : a ≡ b = cc in ap Found same
 tells_once files input (Found a) Over p q = absurd (found_over files input a p q)
 tells_once files input (Found a) Lacking p q = absurd (found_lacking files input a p q)
 tells_once files input (Found a) Failed p q = absurd q
@@ -72,18 +80,22 @@ tells_once files input Lacking Lacking p q = refl
 tells_once files input Lacking Failed p q = absurd q
 tells_once files input Failed two p q = absurd p
 
-each_once : (files : FileMap) (inputs : List Input) (one two : List Loaded) → EachComes (Tells files) inputs one → EachComes (Tells files) inputs two → one ≡ two
+each_once : (files : FileMap) (inputs : List Input) (one two : List Loaded) → EachComes (Tells files) inputs one →
+    EachComes (Tells files) inputs two → one ≡ two
 each_once files [] [] [] p q = refl
 each_once files [] [] (b ∷ more) p q = absurd q
 each_once files [] (a ∷ rest) two p q = absurd p
 each_once files (input ∷ inputs) [] two p q = absurd p
 each_once files (input ∷ inputs) (a ∷ rest) [] p q = absurd q
-each_once files (input ∷ inputs) (a ∷ rest) (b ∷ more) p q = λ i. tells_once files input a b p.0 q.0 i ∷ each_once files inputs rest more p.1 q.1 i
+each_once files (input ∷ inputs) (a ∷ rest) (b ∷ more) p q =
+    λ i. tells_once files input a b p.0 q.0 i ∷ each_once files inputs rest more p.1 q.1 i
 
 -- the replies after a load are one where those to a text are
 after_once : (name : List ℕ) (goes_on : List ℕ → List Loaded → Reply → Type 0) →
-    ((text : List ℕ) (others : List Loaded) (one two : Reply) → goes_on text others one → goes_on text others two → one ≡ two) →
-    (loads : List Loaded) (one two : Reply) → AfterNetwork name goes_on loads one → AfterNetwork name goes_on loads two → one ≡ two
+    ((text : List ℕ) (others : List Loaded) (one two : Reply) → goes_on text others one → goes_on text others two →
+    one ≡ two) →
+    (loads : List Loaded) (one two : Reply) → AfterNetwork name goes_on loads one →
+    AfterNetwork name goes_on loads two → one ≡ two
 after_once name goes_on once [] one two p q = absurd p
 after_once name goes_on once (Found text ∷ others) one two p q = once text others one two p q
 after_once name goes_on once (Over ∷ others) one two p q = p ∙ sym q
@@ -97,38 +109,54 @@ boxless tree narrow = refl
 abbrev report_reply : Plan → List Fact → List Fact → Reply
 report_reply plan facts bad = says (status_of bad) (report_of plan facts bad)
 
-module _ (one_layout : NarrowLayoutIsOneToOne) (one_rising : RisingIsUnique) (one_least : LeastIsUnique) (one_reading : OneReading) where
+module _ (one_layout : NarrowLayoutIsOneToOne) (one_rising : RisingIsUnique) (one_least : LeastIsUnique)
+    (one_reading : OneReading) where
   narrow_is_one : (t u : Tree) → IsNarrow t → IsNarrow u → layout_of_tree t ≡ layout_of_tree u → t ≡ u
   narrow_is_one t u one two same = one_layout t u one two same
 
   report_is_one : (plan : Plan) (one two : Reply) → HasNoBox plan → IsReport plan one → IsReport plan two → one ≡ two
   report_is_one plan one two no_box first second =
-      let facts : first.facts ≡ second.facts = one_least plan first.facts second.facts no_box first.least second.least in
-      let listed : ListsExactly (IsBadAmong plan first.facts) second.bad = subst (λ (f : List Fact). ListsExactly (IsBadAmong plan f) second.bad) (sym facts) second.bad_ones in
+      let facts : first.facts ≡ second.facts =
+      one_least plan first.facts second.facts no_box first.least second.least in
+      let listed : ListsExactly (IsBadAmong plan first.facts) second.bad =
+      subst (λ (f : List Fact). ListsExactly (IsBadAmong plan f) second.bad) (sym facts) second.bad_ones in
       let bad : first.bad ≡ second.bad = one_rising first.bad second.bad first.bad_ones.rising listed.rising
-      (λ fact. (λ there. (listed.member fact).1 ((first.bad_ones.member fact).0 there), λ there. (first.bad_ones.member fact).1 ((listed.member fact).0 there))) in
-      first.told ∙ ap (λ (f : List Fact). report_reply plan f first.bad) facts ∙ ap (report_reply plan second.facts) bad ∙ sym second.told
+      (λ fact. (
+        λ there. (listed.member fact).1 ((first.bad_ones.member fact).0 there),
+        λ there. (first.bad_ones.member fact).1 ((listed.member fact).0 there),
+      )) in
+      first.told ∙ ap (λ (f : List Fact). report_reply plan f first.bad) facts ∙ ap (report_reply plan second.facts) bad
+      ∙ sym second.told
 
   analysis_is_one : (text : List ℕ) (one two : Reply) → IsAnalysis text one → IsAnalysis text two → one ≡ two
   analysis_is_one text one two (formless none e) (formless none' e') = e ∙ sym e'
-  analysis_is_one text one two (formless none e) (reported tree narrow layout report) = absurd (none (tree, narrow, layout))
-  analysis_is_one text one two (reported tree narrow layout report) (formless none e) = absurd (none (tree, narrow, layout))
+  analysis_is_one text one two (formless none e) (reported tree narrow layout report) =
+      absurd (none (tree, narrow, layout))
+  analysis_is_one text one two (reported tree narrow layout report) (formless none e) =
+      absurd (none (tree, narrow, layout))
   analysis_is_one text one two (reported tree narrow layout report) (reported tree' narrow' layout' report') =
       report_is_one (net tree) one two (boxless tree narrow) report
-      (subst (λ (t : Tree). IsReport (net t) two) (narrow_is_one tree' tree narrow' narrow (layout' ∙ sym layout)) report')
+      (subst (λ (t : Tree). IsReport (net t) two)
+      (narrow_is_one tree' tree narrow' narrow (layout' ∙ sym layout)) report')
 
   formatting_is_one : (text : List ℕ) (one two : Reply) → IsFormatting text one → IsFormatting text two → one ≡ two
   formatting_is_one text one two first second =
-      first.told ∙ ap (λ (r : Result Tree ReadRefusal). formatted r) (one_reading text first.reading second.reading first.read second.read) ∙ sym second.told
+      first.told
+      ∙ ap (λ (r : Result Tree ReadRefusal). formatted r)
+      (one_reading text first.reading second.reading first.read second.read) ∙ sym second.told
 
   pub reply_is_one : ReplyIsUnique
-  reply_is_one (Analyse network) = after_once network (λ text others. IsAnalysis text) (λ text others. analysis_is_one text)
-  reply_is_one (Format network) = after_once network (λ text others. IsFormatting text) (λ text others. formatting_is_one text)
+  reply_is_one (Analyse network) =
+      after_once network (λ text others. IsAnalysis text) (λ text others. analysis_is_one text)
+  reply_is_one (Format network) =
+      after_once network (λ text others. IsFormatting text) (λ text others. formatting_is_one text)
 
-  command_reply_is_one : (files : FileMap) (command : Command) (one two : Reply) → IsCommandReply (Tells files) command one → IsCommandReply (Tells files) command two → one ≡ two
+  command_reply_is_one : (files : FileMap) (command : Command) (one two : Reply) →
+      IsCommandReply (Tells files) command one → IsCommandReply (Tells files) command two → one ≡ two
   command_reply_is_one files command one two first second =
       reply_is_one command first.0 one two first.2
-      (subst (λ (loads : List Loaded). IsReplyTo command loads two) (each_once files (inputs_of command) second.0 first.0 second.1 first.1) second.2)
+      (subst (λ (loads : List Loaded). IsReplyTo command loads two)
+      (each_once files (inputs_of command) second.0 first.0 second.1 first.1) second.2)
 
   pub answer_is_one : AnswerIsUnique
   answer_is_one words files one two (unasked none e) (unasked none' e') = e ∙ sym e'
@@ -136,7 +164,8 @@ module _ (one_layout : NarrowLayoutIsOneToOne) (one_rising : RisingIsUnique) (on
   answer_is_one words files one two (asked command asks first) (unasked none e) = absurd (none command asks)
   answer_is_one words files one two (asked command asks first) (asked other asks' second) =
       command_reply_is_one files command one two first
-      (subst (λ (c : Command). IsCommandReply (Tells files) c two) (command_is_asked words other command asks' asks) second)
+      (subst (λ (c : Command). IsCommandReply (Tells files) c two)
+      (command_is_asked words other command asks' asks) second)
 
 -- a reply that stores nothing
 stores_nothing : (name : List ℕ) (goes_on : List ℕ → List Loaded → Reply → Type 0) →
@@ -161,6 +190,8 @@ formatting_stores text reply f = ap (λ (r : Reply). r.stored) f.told ∙ format
 
 pub stores_own_file : StoresItsFile
 stores_own_file (Analyse network) loads reply p file stored =
-    absurd (let none = stores_nothing network (λ text others. IsAnalysis text) (λ text others. analysis_stores text) loads reply p in let both : None ≡ Some file = sym none ∙ stored in cc)
+    absurd (let none = stores_nothing network (λ text others. IsAnalysis text)
+    (λ text others. analysis_stores text) loads reply p in let both : None ≡ Some file = sym none ∙ stored in cc)
 stores_own_file (Format network) loads reply p file stored =
-    absurd (let none = stores_nothing network (λ text others. IsFormatting text) (λ text others. formatting_stores text) loads reply p in let both : None ≡ Some file = sym none ∙ stored in cc)
+    absurd (let none = stores_nothing network (λ text others. IsFormatting text)
+    (λ text others. formatting_stores text) loads reply p in let both : None ≡ Some file = sym none ∙ stored in cc)

@@ -1,5 +1,6 @@
 -- How lists of facts grow.
-use Rattle.std.proofs.Common.{◌≡◌, ℕ, ◌<◌, ◌+◌, List, [], ◌∷◌, ◌++◌, length, take, refl, sym, ap, subst, ◌∙◌, ◌⊎◌, inl, inr, ◌↔◌, arith, slice_index_or}
+use Rattle.std.proofs.Common.{◌≡◌, ℕ, ◌<◌, ◌+◌, List, [], ◌∷◌, ◌++◌, length, take, refl, sym, ap, subst, ◌∙◌, ◌⊎◌, inl}
+use Rattle.std.proofs.Common.{inr, ◌↔◌, arith, slice_index_or}
 use Rattle.std.specs.List.{Contains}
 use Rattle.std.proofs.lemmas.List.Elements.{Contains-append_left, Contains-push, Contains-push_cases, Contains-get_or}
 use Rattle.std.proofs.lemmas.List.Quantifiers.{all_pairs_push}
@@ -28,7 +29,8 @@ pub listing_push : (P Q : Fact → Type 0) (facts : List Fact) (new : Fact) → 
     ListsExactly Q (facts ++ new ∷ [])
 listing_push P Q facts new listed before cases = record {
   rising = all_pairs_push Precedes facts new listed.rising
-      (λ k d in'. before (slice_index_or facts k d) ((listed.member (slice_index_or facts k d)).0 (Contains-get_or facts k d in')));
+      (λ k d in'. before (slice_index_or facts k d)
+      ((listed.member (slice_index_or facts k d)).0 (Contains-get_or facts k d in')));
   member = λ fact. (
     λ there. (cases fact).1 (elim (Contains-push_cases facts new fact there) [
       | inl old ↦ inl ((listed.member fact).0 old)
@@ -41,10 +43,12 @@ listing_push P Q facts new listed before cases = record {
   );
 }
 
-pub listing_same : (P Q : Fact → Type 0) (facts : List Fact) → ListsExactly P facts → ((fact : Fact) → P fact ↔ Q fact) → ListsExactly Q facts
+pub listing_same : (P Q : Fact → Type 0) (facts : List Fact) → ListsExactly P facts →
+    ((fact : Fact) → P fact ↔ Q fact) → ListsExactly Q facts
 listing_same P Q facts listed same = record {
   rising = listed.rising;
-  member = λ fact. (λ there. (same fact).0 ((listed.member fact).0 there), λ holds. (listed.member fact).1 ((same fact).1 holds));
+  member = λ fact.
+      (λ there. (same fact).0 ((listed.member fact).0 there), λ holds. (listed.member fact).1 ((same fact).1 holds));
 }
 
 pub listing_none : (P : Fact → Type 0) → ((fact : Fact) → P fact → ⊥) → ListsExactly P []
@@ -54,7 +58,8 @@ listing_none P none = record {
 }
 
 near : (a b : ℕ) → a < b + 1 → (a < b) ⊎ (a ≡ b)
-near a b less = elim (cases_lt a b) [ inl before ↦ inl before | inr after ↦ inr (let same : a ≡ b = omega arith in same) ]
+near a b less =
+    elim (cases_lt a b) [ inl before ↦ inl before | inr after ↦ inr (let same : a ≡ b = omega arith in same) ]
 
 wider : (a b c d : ℕ) → IsPairBelow a b c d → IsPairBelow a b c (d + 1)
 wider a b c d (inl less) = inl less
@@ -65,8 +70,10 @@ module _ (ends : HostEnds) (plan : Plan) where
   number : (end host : ℕ) → IsEndAt plan end (Host host) → end ≡ host
   number end host at = ((ends plan end host).0 at).1
 
-  pub sent_more : (host end packet : ℕ) → IsEndAt plan end (Host host) → packet < packets_of plan → Sends plan host packet →
-      (fact : Fact) → SentBefore plan host (packet + 1) fact ↔ (SentBefore plan host packet fact ⊎ (Out end packet ≡ fact))
+  pub sent_more : (host end packet : ℕ) → IsEndAt plan end (Host host) → packet < packets_of plan →
+      Sends plan host packet →
+      (fact : Fact) →
+      SentBefore plan host (packet + 1) fact ↔ (SentBefore plan host packet fact ⊎ (Out end packet ≡ fact))
   sent_more host end packet at below sends (Out other_end other) = (
     λ sent. elim sent.4 [
       | inl less ↦ inl (sent.0, sent.1, sent.2, sent.3, inl less)
@@ -79,11 +86,14 @@ module _ (ends : HostEnds) (plan : Plan) where
     ],
     λ either. elim either [
       | inl sent ↦ (sent.0, sent.1, sent.2, sent.3, wider sent.0 other host packet sent.4)
-      | inr same ↦ subst (SentBefore plan host (packet + 1)) same (host, at, below, sends, inr (refl, (let less : packet < packet + 1 = omega arith in less)))
+      | inr same ↦ subst (SentBefore plan host (packet + 1)) same
+          (host, at, below, sends, inr (refl, (let less : packet < packet + 1 = omega arith in less)))
     ],
   )
-  sent_more host end packet at below sends (State box other mask) = (λ sent. absurd sent, λ either. elim either [ inl sent ↦ absurd sent | inr same ↦ absurd (cc) ])
-  sent_more host end packet at below sends (Abort box other) = (λ sent. absurd sent, λ either. elim either [ inl sent ↦ absurd sent | inr same ↦ absurd (cc) ])
+  sent_more host end packet at below sends (State box other mask) =
+      (λ sent. absurd sent, λ either. elim either [ inl sent ↦ absurd sent | inr same ↦ absurd (cc) ])
+  sent_more host end packet at below sends (Abort box other) =
+      (λ sent. absurd sent, λ either. elim either [ inl sent ↦ absurd sent | inr same ↦ absurd (cc) ])
 
   -- what the host doesn't send adds nothing
   pub sent_same : (host packet : ℕ) → (Sends plan host packet → ⊥) →
@@ -99,7 +109,8 @@ module _ (ends : HostEnds) (plan : Plan) where
         | inl less ↦ inl less
         | inr same ↦ elim (near other packet same.1) [
           | inl less ↦ inr (same.0, less)
-          | inr equal ↦ absurd (not_sent (subst (Sends plan host) equal (subst (λ (h : ℕ). Sends plan h other) same.0 sent.3)))
+          | inr equal ↦ absurd
+              (not_sent (subst (Sends plan host) equal (subst (λ (h : ℕ). Sends plan h other) same.0 sent.3)))
         ]
       ],
     ),
@@ -108,7 +119,8 @@ module _ (ends : HostEnds) (plan : Plan) where
   sent_same host packet not_sent (Abort box other) = (λ sent. absurd sent, λ sent. absurd sent)
 
   -- after the last packet comes the next host
-  pub sent_all : (host : ℕ) → (fact : Fact) → SentBefore plan host (packets_of plan) fact ↔ SentBefore plan (host + 1) 0 fact
+  pub sent_all : (host : ℕ) → (fact : Fact) →
+      SentBefore plan host (packets_of plan) fact ↔ SentBefore plan (host + 1) 0 fact
   sent_all host (Out end other) = (
     λ sent. (
       sent.0,
@@ -136,7 +148,11 @@ module _ (ends : HostEnds) (plan : Plan) where
 
   pub sent_none : (fact : Fact) → SentBefore plan 0 0 fact → ⊥
   sent_none (Out end other) sent =
-      elim sent.4 [ inl less ↦ absurd (let none : sent.0 < 0 = less in omega arith) | inr same ↦ absurd (let none : other < 0 = same.1 in omega arith) ]
+      elim sent.4 [
+        | inl less ↦ absurd (let none : sent.0 < 0 = less in omega arith)
+        | inr same ↦ absurd
+            (let none : other < 0 = same.1 in omega arith)
+      ]
   sent_none (State box other mask) sent = sent
   sent_none (Abort box other) sent = sent
 
@@ -150,7 +166,8 @@ module _ (ends : HostEnds) (plan : Plan) where
   sent_by_all (Abort box other) = (λ sent. absurd sent, λ starts. absurd starts)
 
   -- the ends of hosts rise as the hosts do
-  pub sent_precede : (host end packet : ℕ) → IsEndAt plan end (Host host) → (fact : Fact) → SentBefore plan host packet fact → Precedes fact (Out end packet)
+  pub sent_precede : (host end packet : ℕ) → IsEndAt plan end (Host host) → (fact : Fact) →
+      SentBefore plan host packet fact → Precedes fact (Out end packet)
   sent_precede host end packet at (Out other_end other) sent =
       let here : end ≡ host = number end host at in
       let there : other_end ≡ sent.0 = number other_end sent.0 sent.1 in
@@ -181,16 +198,25 @@ module _ (plan : Plan) (facts : List Fact) (i : ℕ) (d : Fact) (in' : i < lengt
   more = take_more facts i d in'
 
   pub bad_more : IsBad plan (slice_index_or facts i d) → (fact : Fact) →
-      IsBadAmong plan (take (i + 1) facts) fact ↔ (IsBadAmong plan (take i facts) fact ⊎ (slice_index_or facts i d ≡ fact))
+      IsBadAmong plan (take (i + 1) facts) fact ↔
+      (IsBadAmong plan (take i facts) fact ⊎ (slice_index_or facts i d ≡ fact))
   bad_more bad fact = (
-    λ among. elim (Contains-push_cases (take i facts) (slice_index_or facts i d) fact (subst (λ (l : List Fact). Contains l fact) more among.0)) [
-      | inl old ↦ inl (old, among.1)
-      | inr same ↦ inr same
-    ],
+    λ among. elim
+        (Contains-push_cases (take i facts) (slice_index_or facts i d) fact
+        (subst (λ (l : List Fact). Contains l fact) more among.0)) [
+          | inl old ↦ inl (old, among.1)
+          | inr same ↦ inr same
+        ],
     λ either. elim either [
-      | inl old ↦ (subst (λ (l : List Fact). Contains l fact) (sym more) (Contains-append_left (take i facts) (slice_index_or facts i d ∷ []) fact old.0), old.1)
+      | inl old ↦ (
+        subst (λ (l : List Fact). Contains l fact) (sym more)
+            (Contains-append_left (take i facts) (slice_index_or facts i d ∷ []) fact old.0),
+        old.1,
+      )
       | inr same ↦ (
-        subst (λ (l : List Fact). Contains l fact) (sym more) (subst (Contains (take i facts ++ slice_index_or facts i d ∷ [])) same (Contains-push (take i facts) (slice_index_or facts i d))),
+        subst (λ (l : List Fact). Contains l fact) (sym more)
+            (subst (Contains (take i facts ++ slice_index_or facts i d ∷ [])) same
+            (Contains-push (take i facts) (slice_index_or facts i d))),
         subst (IsBad plan) same bad,
       )
     ],
@@ -199,17 +225,25 @@ module _ (plan : Plan) (facts : List Fact) (i : ℕ) (d : Fact) (in' : i < lengt
   pub bad_same : (IsBad plan (slice_index_or facts i d) → ⊥) → (fact : Fact) →
       IsBadAmong plan (take i facts) fact ↔ IsBadAmong plan (take (i + 1) facts) fact
   bad_same good fact = (
-    λ among. (subst (λ (l : List Fact). Contains l fact) (sym more) (Contains-append_left (take i facts) (slice_index_or facts i d ∷ []) fact among.0), among.1),
-    λ among. elim (Contains-push_cases (take i facts) (slice_index_or facts i d) fact (subst (λ (l : List Fact). Contains l fact) more among.0)) [
-      | inl old ↦ (old, among.1)
-      | inr same ↦ absurd (good (subst (IsBad plan) (sym same) among.1))
-    ],
+    λ among. (
+      subst (λ (l : List Fact). Contains l fact) (sym more)
+          (Contains-append_left (take i facts) (slice_index_or facts i d ∷ []) fact among.0),
+      among.1,
+    ),
+    λ among. elim
+        (Contains-push_cases (take i facts) (slice_index_or facts i d) fact
+        (subst (λ (l : List Fact). Contains l fact) more among.0)) [
+          | inl old ↦ (old, among.1)
+          | inr same ↦ absurd (good (subst (IsBad plan) (sym same) among.1))
+        ],
   )
 
-  pub before_next : IsRising facts → (fact : Fact) → IsBadAmong plan (take i facts) fact → Precedes fact (slice_index_or facts i d)
+  pub before_next : IsRising facts → (fact : Fact) → IsBadAmong plan (take i facts) fact →
+      Precedes fact (slice_index_or facts i d)
   before_next rising fact among =
       let k : ℕ = among.0.0 in
       let len : length (take i facts) ≡ i = length-take-le i facts (omega arith) in
       let less : k < i = omega (arith, among.0.1, len) in
       let is : slice_index_or facts k fact ≡ fact = sym (get_or-take i facts k fact less) ∙ among.0.2 in
-      subst (λ (f : Fact). Precedes f (slice_index_or facts i d)) (get_or_default facts k d fact (omega arith) ∙ is) (rising k i d less in')
+      subst (λ (f : Fact). Precedes f (slice_index_or facts i d)) (get_or_default facts k d fact (omega arith) ∙ is)
+      (rising k i d less in')

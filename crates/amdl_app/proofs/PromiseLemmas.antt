@@ -1,5 +1,6 @@
 -- A call of the program keeps each promise.
-use Rattle.std.proofs.Common.{◌≡◌, ℕ, ◌≤◌, ◌⊎◌, inl, inr, List, [], ◌∷◌, Option, Some, None, Result, Ok, Err, refl, sym, ap, subst, ◌∙◌, arith}
+use Rattle.std.proofs.Common.{◌≡◌, ℕ, ◌≤◌, ◌⊎◌, inl, inr, List, [], ◌∷◌, Option, Some, None, Result, Ok, Err, refl, sym}
+use Rattle.std.proofs.Common.{ap, subst, ◌∙◌, arith}
 use Rattle.std.specs.List.{Contains}
 use Rattle.std.specs.Io.KnownBytes.{append_known}
 use Rattle.std.proofs.lemmas.List.{append-nil}
@@ -14,14 +15,17 @@ use Rattle.plan_text.specs.Messages.{usage_text, missing_text, fault_load_text}
 use Rattle.plan_text.specs.declared.refusal.NetworkRefusal.{NetworkRefusal}
 use Rattle.plan_text.specs.declared.refusal.NetworkRefusal.TheVariants.{TooLong, FirstForm}
 use Rattle.amdl_app.specs.Reply.{Reply, says, refuses}
-use Rattle.amdl_app.specs.Command.{Command, Analyse, Format, Asks, AskNothing, Input, LoadsFile, network_input, inputs_of}
+use Rattle.amdl_app.specs.Command.{Command, Analyse, Format, Asks, AskNothing, Input, LoadsFile, network_input}
+use Rattle.amdl_app.specs.Command.{inputs_of}
 use Rattle.amdl_app.specs.Loaded.{Loaded, Found, Over, Lacking, Failed, Tells, MayCome, EachComes}
 use Rattle.amdl_app.specs.Report.{IsAnalysis, formless, reported, status_of}
 use Rattle.amdl_app.specs.Formatting.{IsFormatting, formatted, refusal_of}
 use Rattle.amdl_app.specs.Answer.{AfterNetwork, IsReply, IsAnswer, unasked, asked}
 use Rattle.amdl_app.specs.Laws.{AnswerIsUnique}
 use Rattle.amdl_app.specs.Outcome.{whole, failed, unfinished, IsCall, no_memory, replied}
-use Rattle.amdl_app.specs.Promises.{GivesAnswer, AnswersUpToThree, AnswersUnhindered, UsageIsRight, HasRefusal, RefusalIsRight, IsFileFault, lacks, fails, FileFaultIsRight, SinkFaultIsRight, IsCut, nothing, part, fault, CutsAreFronts}
+use Rattle.amdl_app.specs.Promises.{GivesAnswer, AnswersUpToThree, AnswersUnhindered, UsageIsRight, HasRefusal}
+use Rattle.amdl_app.specs.Promises.{RefusalIsRight, IsFileFault, lacks, fails, FileFaultIsRight, SinkFaultIsRight}
+use Rattle.amdl_app.specs.Promises.{IsCut, nothing, part, fault, CutsAreFronts}
 use Rattle.amdl_app.specs.Seen.{FilesSeen, Seen, WhereTold}
 
 -- what a reply to a text is
@@ -36,7 +40,8 @@ report_status (fact ∷ facts) = omega arith
 analysis_kind : (text : List ℕ) (reply : Reply) → IsAnalysis text reply → TextKind reply
 analysis_kind text reply (formless none e) = ill FirstForm e
 analysis_kind text reply (reported tree narrow layout report) =
-    let s : reply.status ≡ status_of report.bad = ap (λ (r : Reply). r.status) report.told in well (omega (arith, report_status report.bad))
+    let s : reply.status ≡ status_of report.bad =
+    ap (λ (r : Reply). r.status) report.told in well (omega (arith, report_status report.bad))
 
 formatted_kind : (reading : Result Tree ReadRefusal) (reply : Reply) → reply ≡ formatted reading → TextKind reply
 formatted_kind (Ok tree) reply e = let s : reply.status ≡ 0 = ap (λ (r : Reply). r.status) e in well (omega arith)
@@ -50,10 +55,13 @@ data Kind (words : List (List ℕ)) (before after : FilesSeen) (reply : Reply) :
   usage : AskNothing words → reply ≡ says 2 usage_text → Kind words before after reply
   good : reply.status ≤ 1 → Kind words before after reply
   refusing : (refusal : NetworkRefusal) → reply ≡ refuses refusal → Kind words before after reply
-  lacking : (name : List ℕ) → LoadsFile words name → LacksFile before.told name before.faults after.faults → reply ≡ says 4 (missing_text name) → Kind words before after reply
-  failing : (name : List ℕ) → LoadsFile words name → Rose before.faults after.faults → reply ≡ says 4 (fault_load_text name) → Kind words before after reply
+  lacking : (name : List ℕ) → LoadsFile words name → LacksFile before.told name before.faults after.faults →
+      reply ≡ says 4 (missing_text name) → Kind words before after reply
+  failing : (name : List ℕ) → LoadsFile words name → Rose before.faults after.faults →
+      reply ≡ says 4 (fault_load_text name) → Kind words before after reply
 
-of_text : (words : List (List ℕ)) (before after : FilesSeen) (reply : Reply) → TextKind reply → Kind words before after reply
+of_text : (words : List (List ℕ)) (before after : FilesSeen) (reply : Reply) → TextKind reply →
+    Kind words before after reply
 of_text words before after reply (well small) = good small
 of_text words before after reply (ill refusal e) = refusing refusal e
 
@@ -65,7 +73,8 @@ pub record IsFault (words : List (List ℕ)) (before after : FilesSeen) (reply :
   pub told : reply ≡ says 4 (fault_load_text name)
 
 -- an outcome is what the map tells, or a failure
-may_tells : (before after : FilesSeen) (files : FileMap) → before.told ≡ Some files → (input : Input) (loaded : Loaded) → MayCome before after input loaded →
+may_tells : (before after : FilesSeen) (files : FileMap) → before.told ≡ Some files →
+    (input : Input) (loaded : Loaded) → MayCome before after input loaded →
     Tells files input loaded ⊎ ((loaded ≡ Failed) × Rose before.faults after.faults)
 may_tells before after files is input (Found text) may = inl (may.0, may.1 files is)
 may_tells before after files is input Over may = inl (may files is)
@@ -73,12 +82,14 @@ may_tells before after files is input Lacking may = inl (may.absent files is)
 may_tells before after files is input Failed may = inr (refl, may)
 
 -- a command that loads one network
-module _ (words : List (List ℕ)) (before after : FilesSeen) (name : List ℕ) (there : LoadsFile words name) (goes_on : List ℕ → List Loaded → Reply → Type 0) where
+module _ (words : List (List ℕ)) (before after : FilesSeen) (name : List ℕ) (there : LoadsFile words name)
+    (goes_on : List ℕ → List Loaded → Reply → Type 0) where
   abbrev Comes : (Input → Loaded → Type 0) → List Loaded → Type 0
   Comes comes loads = EachComes comes (network_input name ∷ []) loads
 
   after_kind : ((text : List ℕ) (others : List Loaded) (reply : Reply) → goes_on text others reply → TextKind reply) →
-      (loads : List Loaded) (reply : Reply) → Comes (MayCome before after) loads → AfterNetwork name goes_on loads reply → Kind words before after reply
+      (loads : List Loaded) (reply : Reply) → Comes (MayCome before after) loads →
+      AfterNetwork name goes_on loads reply → Kind words before after reply
   after_kind kind [] reply each p = absurd each
   after_kind kind (loaded ∷ other ∷ others) reply each p = absurd each.1
   after_kind kind (Found text ∷ []) reply each p = of_text words before after reply (kind text [] reply p)
@@ -86,19 +97,36 @@ module _ (words : List (List ℕ)) (before after : FilesSeen) (name : List ℕ) 
   after_kind kind (Lacking ∷ []) reply each p = lacking name there each.0 p
   after_kind kind (Failed ∷ []) reply each p = failing name there each.0 p
 
-  after_tells : (files : FileMap) → before.told ≡ Some files → (loads : List Loaded) (reply : Reply) → Comes (MayCome before after) loads → AfterNetwork name goes_on loads reply →
+  after_tells : (files : FileMap) → before.told ≡ Some files → (loads : List Loaded) (reply : Reply) →
+      Comes (MayCome before after) loads → AfterNetwork name goes_on loads reply →
       Comes (Tells files) loads ⊎ IsFault words before after reply
   after_tells files is [] reply each p = absurd each
   after_tells files is (loaded ∷ other ∷ others) reply each p = absurd each.1
   after_tells files is (loaded ∷ []) reply each p =
       elim (may_tells before after files is (network_input name) loaded each.0) [
         | inl told ↦ inl (told, tt)
-        | inr failure ↦ inr (record { rose = failure.1; name = name; loads = there; told = subst (λ (l : Loaded). AfterNetwork name goes_on (l ∷ []) reply) failure.0 p })
+        | inr failure ↦ inr
+            (record {
+              rose = failure.1;
+              name = name;
+              loads = there;
+              told = subst
+                  (λ (l : Loaded). AfterNetwork name goes_on (l ∷ []) reply) failure.0 p;
+            })
       ]
 
-loads_one : (words : List (List ℕ)) (command : Command) (name : List ℕ) → Asks words command → inputs_of command ≡ network_input name ∷ [] → LoadsFile words name
+loads_one : (words : List (List ℕ)) (command : Command) (name : List ℕ) → Asks words command →
+    inputs_of command ≡ network_input name ∷ [] → LoadsFile words name
 loads_one words command name asks one =
-    record { command = command; asks = asks; input = network_input name; loads = subst (λ (inputs : List Input). Contains inputs (network_input name)) (sym one) (Contains-push [] (network_input name)); named = refl }
+    record {
+      command = command;
+      asks = asks;
+      input = network_input name;
+      loads = subst
+          (λ (inputs : List Input). Contains inputs (network_input name)) (sym one)
+          (Contains-push [] (network_input name));
+      named = refl;
+    }
 
 module _ (words : List (List ℕ)) (before after : FilesSeen) where
   analyses : (network : List ℕ) → Asks words (Analyse network) → LoadsFile words network
@@ -110,20 +138,25 @@ module _ (words : List (List ℕ)) (before after : FilesSeen) where
   kind_of : (reply : Reply) → IsReply (MayCome before after) words reply → Kind words before after reply
   kind_of reply (unasked none e) = usage none e
   kind_of reply (asked (Analyse network) asks (loads, each, p)) =
-      after_kind words before after network (analyses network asks) (λ text others. IsAnalysis text) (λ text others. analysis_kind text) loads reply each p
+      after_kind words before after network (analyses network asks) (λ text others. IsAnalysis text)
+      (λ text others. analysis_kind text) loads reply each p
   kind_of reply (asked (Format network) asks (loads, each, p)) =
-      after_kind words before after network (formats network asks) (λ text others. IsFormatting text) (λ text others. formatting_kind text) loads reply each p
+      after_kind words before after network (formats network asks) (λ text others. IsFormatting text)
+      (λ text others. formatting_kind text) loads reply each p
 
   -- what the work comes to is the answer, or the text of a fault
-  pub reply_answers : (files : FileMap) (reply : Reply) → before.told ≡ Some files → IsReply (MayCome before after) words reply → IsAnswer words files reply ⊎ IsFault words before after reply
+  pub reply_answers : (files : FileMap) (reply : Reply) → before.told ≡ Some files →
+      IsReply (MayCome before after) words reply → IsAnswer words files reply ⊎ IsFault words before after reply
   reply_answers files reply is (unasked none e) = inl (unasked none e)
   reply_answers files reply is (asked (Analyse network) asks (loads, each, p)) =
-      elim (after_tells words before after network (analyses network asks) (λ text others. IsAnalysis text) files is loads reply each p) [
+      elim (after_tells words before after network (analyses network asks)
+      (λ text others. IsAnalysis text) files is loads reply each p) [
         | inl told ↦ inl (asked (Analyse network) asks (loads, told, p))
         | inr failure ↦ inr failure
       ]
   reply_answers files reply is (asked (Format network) asks (loads, each, p)) =
-      elim (after_tells words before after network (formats network asks) (λ text others. IsFormatting text) files is loads reply each p) [
+      elim (after_tells words before after network (formats network asks)
+      (λ text others. IsFormatting text) files is loads reply each p) [
         | inl told ↦ inl (asked (Format network) asks (loads, told, p))
         | inr failure ↦ inr failure
       ]
@@ -133,27 +166,38 @@ module _ (words : List (List ℕ)) (before after : FilesSeen) where
   kind_status reply (usage none e) = let s : reply.status ≡ 2 = ap (λ (r : Reply). r.status) e in omega arith
   kind_status reply (good small) = omega arith
   kind_status reply (refusing refusal e) = let s : reply.status ≡ 3 = ap (λ (r : Reply). r.status) e in omega arith
-  kind_status reply (lacking name there lack e) = let s : reply.status ≡ 4 = ap (λ (r : Reply). r.status) e in omega arith
-  kind_status reply (failing name there rose e) = let s : reply.status ≡ 4 = ap (λ (r : Reply). r.status) e in omega arith
+  kind_status reply (lacking name there lack e) =
+      let s : reply.status ≡ 4 = ap (λ (r : Reply). r.status) e in omega arith
+  kind_status reply (failing name there rose e) =
+      let s : reply.status ≡ 4 = ap (λ (r : Reply). r.status) e in omega arith
 
   pub reply_status : (reply : Reply) → IsReply (MayCome before after) words reply → reply.status ≤ 4
   reply_status reply p = kind_status reply (kind_of reply p)
 
-  two_is_usage : (reply : Reply) → Kind words before after reply → reply.status ≡ 2 → AskNothing words × (reply ≡ says 2 usage_text)
+  two_is_usage : (reply : Reply) → Kind words before after reply → reply.status ≡ 2 →
+      AskNothing words × (reply ≡ says 2 usage_text)
   two_is_usage reply (usage none e) two = (none, e)
   two_is_usage reply (good small) two = absurd (omega arith)
-  two_is_usage reply (refusing refusal e) two = let s : reply.status ≡ 3 = ap (λ (r : Reply). r.status) e in absurd (omega arith)
-  two_is_usage reply (lacking name there lack e) two = let s : reply.status ≡ 4 = ap (λ (r : Reply). r.status) e in absurd (omega arith)
-  two_is_usage reply (failing name there rose e) two = let s : reply.status ≡ 4 = ap (λ (r : Reply). r.status) e in absurd (omega arith)
+  two_is_usage reply (refusing refusal e) two =
+      let s : reply.status ≡ 3 = ap (λ (r : Reply). r.status) e in absurd (omega arith)
+  two_is_usage reply (lacking name there lack e) two =
+      let s : reply.status ≡ 4 = ap (λ (r : Reply). r.status) e in absurd (omega arith)
+  two_is_usage reply (failing name there rose e) two =
+      let s : reply.status ≡ 4 = ap (λ (r : Reply). r.status) e in absurd (omega arith)
 
-  three_is_refusal : (reply : Reply) → Kind words before after reply → reply.status ≡ 3 → (refusal : NetworkRefusal) × (reply ≡ refuses refusal)
-  three_is_refusal reply (usage none e) three = let s : reply.status ≡ 2 = ap (λ (r : Reply). r.status) e in absurd (omega arith)
+  three_is_refusal : (reply : Reply) → Kind words before after reply → reply.status ≡ 3 →
+      (refusal : NetworkRefusal) × (reply ≡ refuses refusal)
+  three_is_refusal reply (usage none e) three =
+      let s : reply.status ≡ 2 = ap (λ (r : Reply). r.status) e in absurd (omega arith)
   three_is_refusal reply (good small) three = absurd (omega arith)
   three_is_refusal reply (refusing refusal e) three = (refusal, e)
-  three_is_refusal reply (lacking name there lack e) three = let s : reply.status ≡ 4 = ap (λ (r : Reply). r.status) e in absurd (omega arith)
-  three_is_refusal reply (failing name there rose e) three = let s : reply.status ≡ 4 = ap (λ (r : Reply). r.status) e in absurd (omega arith)
+  three_is_refusal reply (lacking name there lack e) three =
+      let s : reply.status ≡ 4 = ap (λ (r : Reply). r.status) e in absurd (omega arith)
+  three_is_refusal reply (failing name there rose e) three =
+      let s : reply.status ≡ 4 = ap (λ (r : Reply). r.status) e in absurd (omega arith)
 
-  not_asked : (reply : Reply) → AskNothing words → IsReply (MayCome before after) words reply → reply ≡ says 2 usage_text
+  not_asked : (reply : Reply) → AskNothing words → IsReply (MayCome before after) words reply →
+      reply ≡ says 2 usage_text
   not_asked reply none (unasked none' e) = e
   not_asked reply none (asked command asks p) = absurd (none command asks)
 
@@ -178,12 +222,18 @@ module _ (words : List (List ℕ)) (before after : Seen) (status : ℕ) where
 
   -- a whole reply with another status than that of a fault is the answer's
   given : (files : FileMap) (reply : Reply) → before.files.told ≡ Some files → Replies reply →
-      (IsFault words before.files after.files reply → ⊥) → status ≡ reply.status → after.sink.written ≡ append_known before.sink.written reply.text →
+      (IsFault words before.files after.files reply → ⊥) → status ≡ reply.status →
+      after.sink.written ≡ append_known before.sink.written reply.text →
       GivesAnswer words files before after status
   given files reply is p no_fault s e =
       record {
         reply = reply;
-        answer = elim (reply_answers words before.files after.files files reply is p) [ inl answer ↦ answer | inr failure ↦ absurd (no_fault failure) ];
+        answer = elim
+            (reply_answers words before.files after.files files reply is p) [
+              | inl answer ↦ answer
+              | inr failure ↦ absurd
+                  (no_fault failure)
+            ];
         status_is = s;
         text_is = e;
       }
@@ -194,7 +244,8 @@ module _ (words : List (List ℕ)) (before after : Seen) (status : ℕ) where
   pub answers_up_to_three : Called → AnswersUpToThree words before after status
   answers_up_to_three (no_memory s e f) small files is = absurd (omega arith)
   answers_up_to_three (replied reply p f (whole s e)) small files is =
-      given files reply is p (λ failure. let four : reply.status ≡ 4 = fault_is_four reply failure in absurd (omega arith)) s e
+      given files reply is p
+      (λ failure. let four : reply.status ≡ 4 = fault_is_four reply failure in absurd (omega arith)) s e
   answers_up_to_three (replied reply p f (failed s rose front)) small files is = absurd (omega arith)
   answers_up_to_three (replied reply p f (unfinished s front)) small files is = absurd (omega arith)
 
@@ -202,7 +253,8 @@ module _ (words : List (List ℕ)) (before after : Seen) (status : ℕ) where
   answers_unhindered (no_memory s e f) quiet_files quiet_sink enough files is = absurd (enough s)
   answers_unhindered (replied reply p f (whole s e)) quiet_files quiet_sink enough files is =
       given files reply is p (λ failure. quiet_files failure.rose) s e
-  answers_unhindered (replied reply p f (failed s rose front)) quiet_files quiet_sink enough files is = absurd (quiet_sink rose)
+  answers_unhindered (replied reply p f (failed s rose front)) quiet_files quiet_sink enough files is =
+      absurd (quiet_sink rose)
   answers_unhindered (replied reply p f (unfinished s front)) quiet_files quiet_sink enough files is = absurd (enough s)
 
   pub sink_fault_is_right : Called → SinkFaultIsRight before after status
@@ -213,7 +265,8 @@ module _ (words : List (List ℕ)) (before after : Seen) (status : ℕ) where
 
   -- the usage
   usage_reply : (reply : Reply) → Replies reply → reply.status ≡ 2 → AskNothing words × (reply ≡ says 2 usage_text)
-  usage_reply reply p two = two_is_usage words before.files after.files reply (kind_of words before.files after.files reply p) two
+  usage_reply reply p two =
+      two_is_usage words before.files after.files reply (kind_of words before.files after.files reply p) two
 
   usage_only : Called → status ≡ 2 → AskNothing words
   usage_only (no_memory s e f) two = absurd (omega arith)
@@ -223,7 +276,8 @@ module _ (words : List (List ℕ)) (before after : Seen) (status : ℕ) where
 
   usage_whole : Called → status ≡ 2 → after.sink.written ≡ append_known before.sink.written usage_text
   usage_whole (no_memory s e f) two = absurd (omega arith)
-  usage_whole (replied reply p f (whole s e)) two = e ∙ ap (λ (r : Reply). append_known before.sink.written r.text) (usage_reply reply p (sym s ∙ two)).1
+  usage_whole (replied reply p f (whole s e)) two =
+      e ∙ ap (λ (r : Reply). append_known before.sink.written r.text) (usage_reply reply p (sym s ∙ two)).1
   usage_whole (replied reply p f (failed s rose front)) two = absurd (omega arith)
   usage_whole (replied reply p f (unfinished s front)) two = absurd (omega arith)
 
@@ -243,23 +297,32 @@ module _ (words : List (List ℕ)) (before after : Seen) (status : ℕ) where
 
   usage_cut : Called → AskNothing words → Fronts usage_text
   usage_cut (no_memory s e f) none = none_of usage_text e
-  usage_cut (replied reply p f (whole s e)) none = all_of usage_text (e ∙ ap (λ (r : Reply). append_known before.sink.written r.text) (unasked_reply reply none p))
-  usage_cut (replied reply p f (failed s rose front)) none = subst (λ (r : Reply). Fronts r.text) (unasked_reply reply none p) front
-  usage_cut (replied reply p f (unfinished s front)) none = subst (λ (r : Reply). Fronts r.text) (unasked_reply reply none p) front
+  usage_cut (replied reply p f (whole s e)) none =
+      all_of usage_text (e ∙ ap (λ (r : Reply). append_known before.sink.written r.text) (unasked_reply reply none p))
+  usage_cut (replied reply p f (failed s rose front)) none =
+      subst (λ (r : Reply). Fronts r.text) (unasked_reply reply none p) front
+  usage_cut (replied reply p f (unfinished s front)) none =
+      subst (λ (r : Reply). Fronts r.text) (unasked_reply reply none p) front
 
   usage_statuses : Called → AskNothing words → (status ≡ 2) ⊎ ((status ≡ 5) ⊎ (status ≡ 6))
   usage_statuses (no_memory s e f) none = inr (inr s)
-  usage_statuses (replied reply p f (whole s e)) none = inl (s ∙ ap (λ (r : Reply). r.status) (unasked_reply reply none p))
+  usage_statuses (replied reply p f (whole s e)) none =
+      inl (s ∙ ap (λ (r : Reply). r.status) (unasked_reply reply none p))
   usage_statuses (replied reply p f (failed s rose front)) none = inr (inl s)
   usage_statuses (replied reply p f (unfinished s front)) none = inr (inr s)
 
   pub usage_is_right : Called → UsageIsRight words before after status
-  usage_is_right called = record { only = usage_only called; text = usage_whole called; cut = usage_cut called; statuses = usage_statuses called }
+  usage_is_right called =
+      record
+      { only = usage_only called; text = usage_whole called; cut = usage_cut called; statuses = usage_statuses called }
 
   -- refusals
-  refused_reply : (files : FileMap) (reply : Reply) → before.files.told ≡ Some files → Replies reply → reply.status ≡ 3 → HasRefusal words files
+  refused_reply : (files : FileMap) (reply : Reply) → before.files.told ≡ Some files → Replies reply →
+      reply.status ≡ 3 → HasRefusal words files
   refused_reply files reply is p three =
-      let refused = three_is_refusal words before.files after.files reply (kind_of words before.files after.files reply p) three in (
+      let refused =
+      three_is_refusal words before.files after.files reply
+      (kind_of words before.files after.files reply p) three in (
         refused.0,
         subst (IsAnswer words files) refused.1 (elim (reply_answers words before.files after.files files reply is p) [
           | inl answer ↦ answer
@@ -274,15 +337,19 @@ module _ (words : List (List ℕ)) (before after : Seen) (status : ℕ) where
   refusal_only (replied reply p f (unfinished s front)) three files is = absurd (omega arith)
 
   module _ (one_answer : AnswerIsUnique) where
-    refusing_status : (files : FileMap) (reply : Reply) → before.files.told ≡ Some files → HasRefusal words files → Replies reply → 3 ≤ reply.status
-    refusing_status files reply is (refusal, answer) p = elim (reply_answers words before.files after.files files reply is p) [
-      | inl other ↦ let s : reply.status ≡ 3 = ap (λ (r : Reply). r.status) (one_answer words files reply (refuses refusal) other answer) in omega arith
-      | inr failure ↦ let four : reply.status ≡ 4 = fault_is_four reply failure in omega arith
-    ]
+    refusing_status : (files : FileMap) (reply : Reply) → before.files.told ≡ Some files → HasRefusal words files →
+        Replies reply → 3 ≤ reply.status
+    refusing_status files reply is (refusal, answer) p =
+        elim (reply_answers words before.files after.files files reply is p) [
+          | inl other ↦ let s : reply.status ≡ 3 =
+              ap (λ (r : Reply). r.status) (one_answer words files reply (refuses refusal) other answer) in omega arith
+          | inr failure ↦ let four : reply.status ≡ 4 = fault_is_four reply failure in omega arith
+        ]
 
     refused_status : (files : FileMap) → before.files.told ≡ Some files → HasRefusal words files → Called → 3 ≤ status
     refused_status files is refused (no_memory s e f) = omega arith
-    refused_status files is refused (replied reply p f (whole s e)) = omega (arith, refusing_status files reply is refused p)
+    refused_status files is refused (replied reply p f (whole s e)) =
+        omega (arith, refusing_status files reply is refused p)
     refused_status files is refused (replied reply p f (failed s rose front)) = omega arith
     refused_status files is refused (replied reply p f (unfinished s front)) = omega arith
 
@@ -293,22 +360,30 @@ module _ (words : List (List ℕ)) (before after : Seen) (status : ℕ) where
     }
 
   -- faults of the files
-  four_is_fault : (reply : Reply) → after.sink.written ≡ append_known before.sink.written reply.text → Kind words before.files after.files reply → reply.status ≡ 4 → IsFileFault words before after
-  four_is_fault reply e (usage none e') four = let s : reply.status ≡ 2 = ap (λ (r : Reply). r.status) e' in absurd (omega arith)
+  four_is_fault : (reply : Reply) → after.sink.written ≡ append_known before.sink.written reply.text →
+      Kind words before.files after.files reply → reply.status ≡ 4 → IsFileFault words before after
+  four_is_fault reply e (usage none e') four =
+      let s : reply.status ≡ 2 = ap (λ (r : Reply). r.status) e' in absurd (omega arith)
   four_is_fault reply e (good small) four = absurd (omega arith)
-  four_is_fault reply e (refusing refusal e') four = let s : reply.status ≡ 3 = ap (λ (r : Reply). r.status) e' in absurd (omega arith)
-  four_is_fault reply e (lacking name there lack e') four = lacks name there lack (e ∙ ap (λ (r : Reply). append_known before.sink.written r.text) e')
-  four_is_fault reply e (failing name there rose e') four = fails name there rose (e ∙ ap (λ (r : Reply). append_known before.sink.written r.text) e')
+  four_is_fault reply e (refusing refusal e') four =
+      let s : reply.status ≡ 3 = ap (λ (r : Reply). r.status) e' in absurd (omega arith)
+  four_is_fault reply e (lacking name there lack e') four =
+      lacks name there lack (e ∙ ap (λ (r : Reply). append_known before.sink.written r.text) e')
+  four_is_fault reply e (failing name there rose e') four =
+      fails name there rose (e ∙ ap (λ (r : Reply). append_known before.sink.written r.text) e')
 
   fault_text : Called → status ≡ 4 → IsFileFault words before after
   fault_text (no_memory s e f) four = absurd (omega arith)
-  fault_text (replied reply p f (whole s e)) four = four_is_fault reply e (kind_of words before.files after.files reply p) (sym s ∙ four)
+  fault_text (replied reply p f (whole s e)) four =
+      four_is_fault reply e (kind_of words before.files after.files reply p) (sym s ∙ four)
   fault_text (replied reply p f (failed s rose front)) four = absurd (omega arith)
   fault_text (replied reply p f (unfinished s front)) four = absurd (omega arith)
 
-  fault_answer : Called → status ≡ 4 → (Rose before.files.faults after.files.faults → ⊥) → WhereTold before.files (λ files. GivesAnswer words files before after status)
+  fault_answer : Called → status ≡ 4 → (Rose before.files.faults after.files.faults → ⊥) →
+      WhereTold before.files (λ files. GivesAnswer words files before after status)
   fault_answer (no_memory s e f) four quiet files is = absurd (omega arith)
-  fault_answer (replied reply p f (whole s e)) four quiet files is = given files reply is p (λ failure. quiet failure.rose) s e
+  fault_answer (replied reply p f (whole s e)) four quiet files is =
+      given files reply is p (λ failure. quiet failure.rose) s e
   fault_answer (replied reply p f (failed s rose front)) four quiet files is = absurd (omega arith)
   fault_answer (replied reply p f (unfinished s front)) four quiet files is = absurd (omega arith)
 
@@ -316,11 +391,13 @@ module _ (words : List (List ℕ)) (before after : Seen) (status : ℕ) where
   file_fault_is_right called = record { text = fault_text called; answer = fault_answer called }
 
   -- replies that were cut short
-  cut_of : (files : FileMap) (reply : Reply) → before.files.told ≡ Some files → Replies reply → Fronts reply.text → IsCut words files before after
+  cut_of : (files : FileMap) (reply : Reply) → before.files.told ≡ Some files → Replies reply → Fronts reply.text →
+      IsCut words files before after
   cut_of files reply is p front =
       elim (reply_answers words before.files after.files files reply is p) [
         | inl answer ↦ part reply answer front
-        | inr failure ↦ fault failure.rose failure.name failure.loads (subst (λ (r : Reply). Fronts r.text) failure.told front)
+        | inr failure ↦ fault failure.rose failure.name failure.loads
+            (subst (λ (r : Reply). Fronts r.text) failure.told front)
       ]
 
   pub cuts_are_fronts : Called → CutsAreFronts words before after status

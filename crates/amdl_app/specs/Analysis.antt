@@ -16,7 +16,8 @@ IsPairBelow a b c d = (a < c) ⊎ ((a ≡ c) × (b < d))
 -- a fact that follows from no premise, of a host before this one, or of this one and of a packet before this one
 abbrev pub SentBefore : Plan → ℕ → ℕ → Fact → Type 0
 SentBefore plan host packet (Out end other) =
-    (sender : ℕ) × IsEndAt plan end (Host sender) × (other < packets_of plan) × Sends plan sender other × IsPairBelow sender other host packet
+    (sender : ℕ) × IsEndAt plan end (Host sender) × (other < packets_of plan) × Sends plan sender other
+    × IsPairBelow sender other host packet
 SentBefore plan host packet _ = ⊥
 
 -- a bad one of the facts

@@ -132,7 +132,8 @@ SafeOnly words before after status =
 -- where SAFE is said, no run of a network that the file spells, of any length and in either mode, has a bad event
 abbrev pub SafeRuns : List (List ℕ) → Seen → Seen → ℕ → Type 0
 SafeRuns words before after status =
-    (network : List ℕ) → Asks words (Analyse network) → CallSaysSafe before after status → WhereTold before.files (λ files.
+    (network : List ℕ) → Asks words (Analyse network) → CallSaysSafe before after status →
+    WhereTold before.files (λ files.
     (text : List ℕ) → file_of files network ≡ Some text →
     (tree : Tree) → IsNarrow tree → layout_of_tree tree ≡ text → HasNoBadRun (net tree))
 

@@ -6,7 +6,9 @@ ghost use Rattle.amdl_app.specs.Asked.{asked_for};
 ghost use Rattle.amdl_app.specs.Command.{inputs_of, UseNoFile};
 ghost use Rattle.amdl_app.specs.Loaded.{MayCome};
 ghost use Rattle.amdl_app.specs.Outcome.{IsCall, IsPutOut};
-ghost use Rattle.amdl_app.specs.Promises.{spelled, AnswersUpToThree, AnswersUnhindered, UnusedIsQuiet, UsageIsRight, RefusalIsRight, FileFaultIsRight, SinkFaultIsRight, CutsAreFronts, SafeOnly, SafeRuns, SafeIf};
+ghost use Rattle.amdl_app.specs.Promises.{spelled, AnswersUpToThree, AnswersUnhindered, UnusedIsQuiet, UsageIsRight};
+ghost use Rattle.amdl_app.specs.Promises.{RefusalIsRight, FileFaultIsRight, SinkFaultIsRight, CutsAreFronts, SafeOnly};
+ghost use Rattle.amdl_app.specs.Promises.{SafeRuns, SafeIf};
 ghost use Rattle.amdl_app.specs.Seen.{both_seen, files_seen, sink_seen};
 
 use crate::analyse::analyse;
@@ -25,9 +27,9 @@ use std::alloc::Global;
 /// Does all that the program does for the words after its name, and answers its exit status.
 ///
 /// Status 0: SAFE, or done; 1: ALARM; 2: the words are no row of the table; 3: a text that was loaded is refused; 4: a
-/// file is missing or loading it failed; 5: putting the text out failed; 6: want of memory. With the statuses 0 to 4 the
-/// whole text was appended to the sink, with 5 and 6 a front of it. It takes time linear in the text of the network,
-/// and for `analyse` in its packets.
+/// file is missing or loading it failed; 5: putting the text out failed; 6: want of memory. With the statuses 0 to 4
+/// the whole text was appended to the sink, with 5 and 6 a front of it. It takes time linear in the text of the
+/// network, and for `analyse` in its packets.
 pub fn run<F: Files, S: Sink>(alloc: Global, words: &[String], files: &mut F, out: &mut S) -> u8
     ensures status { result ≤ 6 }
 

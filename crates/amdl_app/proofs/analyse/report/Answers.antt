@@ -28,13 +28,17 @@ returns c =
     let status : c.verdict.result ≡ status_of c.in_ok-bad.bad = c.verdict.ensures ∙ ap status_of c.as_slice-4.ensures in
     let text : c.put_report.new.out.items ≡ report_of network c.in_ok-facts.facts c.in_ok-bad.bad =
     c.in_ok-put_report.ensures.ok
-    ∙ ap (λ (before : List ℕ). before ++ report_of network c.as_slice-2.result.now c.as_slice-3.result.now) c.new-text.ensures.items
+    ∙ ap (λ (before : List ℕ). before
+    ++ report_of network c.as_slice-2.result.now c.as_slice-3.result.now) c.new-text.ensures.items
     ∙ ap (λ (facts : List Fact). report_of network facts c.as_slice-3.result.now) c.as_slice-2.ensures
     ∙ ap (report_of network c.in_ok-facts.facts) c.as_slice-3.ensures in
     record {
       facts = c.in_ok-facts.facts;
       bad = c.in_ok-bad.bad;
       least = c.in_ok-facts.ensures.least;
-      bad_ones = subst (λ (facts : List Fact). ListsExactly (IsBadAmong c.args.network.now facts) c.in_ok-bad.bad) c.as_slice.ensures c.in_ok-bad.ensures;
+      bad_ones =
+          subst
+          (λ (facts : List Fact). ListsExactly
+          (IsBadAmong c.args.network.now facts) c.in_ok-bad.bad) c.as_slice.ensures c.in_ok-bad.ensures;
       told = ap (λ (n : ℕ). says n c.put_report.new.out.items) status ∙ ap (says (status_of c.in_ok-bad.bad)) text;
     }

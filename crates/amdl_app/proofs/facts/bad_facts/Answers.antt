@@ -9,16 +9,21 @@ pub loop-fact-preserved : goal.loop-fact-preserved
 loop-fact-preserved c =
     elim c.if-bad.branch [
       | then-bad+in_ok-push w ↦
-          subst (ListsExactly (IsBadAmong c.args.network.now (take (c.loop-fact.fact-index + 1) c.args.facts.now))) (sym (w.bad-is ∙ w.in_ok-push.ensures.ok))
+          subst (ListsExactly (IsBadAmong c.args.network.now (take (c.loop-fact.fact-index + 1) c.args.facts.now)))
+          (sym (w.bad-is ∙ w.in_ok-push.ensures.ok))
           (listing_push (IsBadAmong c.args.network.now (take c.loop-fact.fact-index c.args.facts.now))
           (IsBadAmong c.args.network.now (take (c.loop-fact.fact-index + 1) c.args.facts.now))
           c.loop-fact.bad _ c.loop-fact.invariant
-          (before_next c.args.network.now c.args.facts.now c.loop-fact.fact-index _ c.loop-fact-test.true c.requires.rising)
-          (bad_more c.args.network.now c.args.facts.now c.loop-fact.fact-index _ c.loop-fact-test.true (w.if-bad.ensures.0 refl)))
+          (before_next c.args.network.now c.args.facts.now c.loop-fact.fact-index _ c.loop-fact-test.true
+          c.requires.rising)
+          (bad_more c.args.network.now c.args.facts.now c.loop-fact.fact-index _ c.loop-fact-test.true
+          (w.if-bad.ensures.0 refl)))
       | else-bad w ↦
-          subst (ListsExactly (IsBadAmong c.args.network.now (take (c.loop-fact.fact-index + 1) c.args.facts.now))) (sym w.bad-is)
+          subst (ListsExactly (IsBadAmong c.args.network.now (take (c.loop-fact.fact-index + 1) c.args.facts.now)))
+          (sym w.bad-is)
           (listing_same (IsBadAmong c.args.network.now (take c.loop-fact.fact-index c.args.facts.now))
           (IsBadAmong c.args.network.now (take (c.loop-fact.fact-index + 1) c.args.facts.now))
           c.loop-fact.bad c.loop-fact.invariant
-          (bad_same c.args.network.now c.args.facts.now c.loop-fact.fact-index _ c.loop-fact-test.true (λ bad. absurd (let t = w.if-bad.ensures.1 bad in cc t))))
+          (bad_same c.args.network.now c.args.facts.now c.loop-fact.fact-index _ c.loop-fact-test.true
+          (λ bad. absurd (let t = w.if-bad.ensures.1 bad in cc t))))
     ]

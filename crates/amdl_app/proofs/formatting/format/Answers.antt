@@ -12,18 +12,37 @@ use Rattle.amdl_app.proofs.formatting.format.Goals as goal
 
 pub returns-in-Found-clause-reply : goal.returns-in-Found-clause-reply
 returns-in-Found-clause-reply g c =
-    let may = MayCome (files_seen g.F.Files.told g.F.Files.faults c.args.files.now) (files_seen g.F.Files.told g.F.Files.faults c.load_network.new.files) in
-    let came = subst (λ loaded. may (network_input c.args.network.now) (came_to loaded)) c.in-Found.is c.in_ok-loaded.ensures.came in
+    let may =
+    MayCome (files_seen g.F.Files.told g.F.Files.faults c.args.files.now)
+    (files_seen g.F.Files.told g.F.Files.faults c.load_network.new.files) in
+    let came =
+    subst
+    (λ loaded. may (network_input c.args.network.now) (came_to loaded)) c.in-Found.is c.in_ok-loaded.ensures.came in
     ok_map c.format_text.result
     (λ answer. IsFormatting c.as_slice.result.now (reply_of answer))
     (λ answer. IsCommandReply may (Format c.args.network.now) (reply_of answer))
-    (λ answer reply. (Found c.in-Found.text.items ∷ [], (came, tt), subst (λ (t : List ℕ). IsFormatting t (reply_of answer)) c.as_slice.ensures.value reply)) c.format_text.ensures
+    (λ answer reply. (
+      Found c.in-Found.text.items ∷ [],
+      (came, tt),
+      subst (λ (t : List ℕ). IsFormatting t (reply_of answer)) c.as_slice.ensures.value reply,
+    )) c.format_text.ensures
 
 pub returns-in-Stopped-clause-reply : goal.returns-in-Stopped-clause-reply
 returns-in-Stopped-clause-reply g c =
-    let may = MayCome (files_seen g.F.Files.told g.F.Files.faults c.args.files.now) (files_seen g.F.Files.told g.F.Files.faults c.load_network.new.files) in
-    let came = subst (λ loaded. may (network_input c.args.network.now) (came_to loaded)) c.in-Stopped.is c.in_ok-loaded.ensures.came in
+    let may =
+    MayCome (files_seen g.F.Files.told g.F.Files.faults c.args.files.now)
+    (files_seen g.F.Files.told g.F.Files.faults c.load_network.new.files) in
+    let came =
+    subst
+    (λ loaded. may (network_input c.args.network.now)
+    (came_to loaded)) c.in-Stopped.is c.in_ok-loaded.ensures.came in
     ok_map c.stop_answer.result
-    (λ answer. AfterNetwork c.args.network.now (λ text others reply. ⊥) (stopped_by c.in-Stopped.stop ∷ []) (reply_of answer))
+    (λ answer. AfterNetwork c.args.network.now (λ text others reply. ⊥) (stopped_by c.in-Stopped.stop ∷ [])
+    (reply_of answer))
     (λ answer. IsCommandReply may (Format c.args.network.now) (reply_of answer))
-    (λ answer reply. (stopped_by c.in-Stopped.stop ∷ [], (came, tt), after_stop c.args.network.now (λ text others. IsFormatting text) (stopped_by c.in-Stopped.stop ∷ []) (reply_of answer) reply)) c.stop_answer.ensures
+    (λ answer reply. (
+      stopped_by c.in-Stopped.stop ∷ [],
+      (came, tt),
+      after_stop c.args.network.now (λ text others. IsFormatting text) (stopped_by c.in-Stopped.stop ∷ [])
+          (reply_of answer) reply,
+    )) c.stop_answer.ensures

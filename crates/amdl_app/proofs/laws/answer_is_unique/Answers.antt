@@ -2,7 +2,11 @@ use Rattle.amdl_app.proofs.AnswerLemmas.{reply_is_one, answer_is_one}
 use Rattle.amdl_app.proofs.laws.answer_is_unique.Goals as goal
 
 pub returns-clause-reply : goal.returns-clause-reply
-returns-clause-reply c = reply_is_one c.narrow_layout_is_one_to_one.ensures c.rising_is_unique.ensures c.least_is_unique.ensures c.one_reading.ensures
+returns-clause-reply c =
+    reply_is_one c.narrow_layout_is_one_to_one.ensures c.rising_is_unique.ensures c.least_is_unique.ensures
+    c.one_reading.ensures
 
 pub returns-clause-answer : goal.returns-clause-answer
-returns-clause-answer c = answer_is_one c.narrow_layout_is_one_to_one.ensures c.rising_is_unique.ensures c.least_is_unique.ensures c.one_reading.ensures
+returns-clause-answer c =
+    answer_is_one c.narrow_layout_is_one_to_one.ensures c.rising_is_unique.ensures c.least_is_unique.ensures
+    c.one_reading.ensures

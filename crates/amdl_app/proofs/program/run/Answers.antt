@@ -1,82 +1,108 @@
 use Rattle.amdl_app.specs.Promises.{spelled}
 use Rattle.amdl_app.specs.Seen.{both_seen, files_seen, sink_seen}
-use Rattle.amdl_app.proofs.PromiseLemmas.{status_in_range, answers_up_to_three, answers_unhindered, sink_fault_is_right, usage_is_right, refusal_is_right, file_fault_is_right, cuts_are_fronts}
+use Rattle.amdl_app.proofs.PromiseLemmas.{status_in_range, answers_up_to_three, answers_unhindered, sink_fault_is_right}
+use Rattle.amdl_app.proofs.PromiseLemmas.{usage_is_right, refusal_is_right, file_fault_is_right, cuts_are_fronts}
 use Rattle.amdl_app.proofs.SafeLemmas.{safe_only, safe_runs, safe_if}
 use Rattle.amdl_app.proofs.program.run.Goals as goal
 
 pub returns-clause-status : goal.returns-clause-status
 returns-clause-status g c =
     status_in_range (spelled c.args.words.now)
-    (both_seen (files_seen g.F.Files.told g.F.Files.faults c.args.files.now) (sink_seen g.S.Sink.written g.S.Sink.faults c.args.out.now))
-    (both_seen (files_seen g.F.Files.told g.F.Files.faults c.perform.new.files) (sink_seen g.S.Sink.written g.S.Sink.faults c.perform.new.out))
+    (both_seen (files_seen g.F.Files.told g.F.Files.faults c.args.files.now)
+    (sink_seen g.S.Sink.written g.S.Sink.faults c.args.out.now))
+    (both_seen (files_seen g.F.Files.told g.F.Files.faults c.perform.new.files)
+    (sink_seen g.S.Sink.written g.S.Sink.faults c.perform.new.out))
     c.perform.result c.perform.ensures.call
 
 pub returns-clause-answers : goal.returns-clause-answers
 returns-clause-answers g c =
     answers_up_to_three (spelled c.args.words.now)
-    (both_seen (files_seen g.F.Files.told g.F.Files.faults c.args.files.now) (sink_seen g.S.Sink.written g.S.Sink.faults c.args.out.now))
-    (both_seen (files_seen g.F.Files.told g.F.Files.faults c.perform.new.files) (sink_seen g.S.Sink.written g.S.Sink.faults c.perform.new.out))
+    (both_seen (files_seen g.F.Files.told g.F.Files.faults c.args.files.now)
+    (sink_seen g.S.Sink.written g.S.Sink.faults c.args.out.now))
+    (both_seen (files_seen g.F.Files.told g.F.Files.faults c.perform.new.files)
+    (sink_seen g.S.Sink.written g.S.Sink.faults c.perform.new.out))
     c.perform.result c.perform.ensures.call
 
 pub returns-clause-unhindered : goal.returns-clause-unhindered
 returns-clause-unhindered g c =
     answers_unhindered (spelled c.args.words.now)
-    (both_seen (files_seen g.F.Files.told g.F.Files.faults c.args.files.now) (sink_seen g.S.Sink.written g.S.Sink.faults c.args.out.now))
-    (both_seen (files_seen g.F.Files.told g.F.Files.faults c.perform.new.files) (sink_seen g.S.Sink.written g.S.Sink.faults c.perform.new.out))
+    (both_seen (files_seen g.F.Files.told g.F.Files.faults c.args.files.now)
+    (sink_seen g.S.Sink.written g.S.Sink.faults c.args.out.now))
+    (both_seen (files_seen g.F.Files.told g.F.Files.faults c.perform.new.files)
+    (sink_seen g.S.Sink.written g.S.Sink.faults c.perform.new.out))
     c.perform.result c.perform.ensures.call
 
 pub returns-clause-usage : goal.returns-clause-usage
 returns-clause-usage g c =
     usage_is_right (spelled c.args.words.now)
-    (both_seen (files_seen g.F.Files.told g.F.Files.faults c.args.files.now) (sink_seen g.S.Sink.written g.S.Sink.faults c.args.out.now))
-    (both_seen (files_seen g.F.Files.told g.F.Files.faults c.perform.new.files) (sink_seen g.S.Sink.written g.S.Sink.faults c.perform.new.out))
+    (both_seen (files_seen g.F.Files.told g.F.Files.faults c.args.files.now)
+    (sink_seen g.S.Sink.written g.S.Sink.faults c.args.out.now))
+    (both_seen (files_seen g.F.Files.told g.F.Files.faults c.perform.new.files)
+    (sink_seen g.S.Sink.written g.S.Sink.faults c.perform.new.out))
     c.perform.result c.perform.ensures.call
 
 pub returns-clause-refusal : goal.returns-clause-refusal
 returns-clause-refusal g c =
     refusal_is_right (spelled c.args.words.now)
-    (both_seen (files_seen g.F.Files.told g.F.Files.faults c.args.files.now) (sink_seen g.S.Sink.written g.S.Sink.faults c.args.out.now))
-    (both_seen (files_seen g.F.Files.told g.F.Files.faults c.perform.new.files) (sink_seen g.S.Sink.written g.S.Sink.faults c.perform.new.out))
+    (both_seen (files_seen g.F.Files.told g.F.Files.faults c.args.files.now)
+    (sink_seen g.S.Sink.written g.S.Sink.faults c.args.out.now))
+    (both_seen (files_seen g.F.Files.told g.F.Files.faults c.perform.new.files)
+    (sink_seen g.S.Sink.written g.S.Sink.faults c.perform.new.out))
     c.perform.result c.answer_is_unique.ensures.answer c.perform.ensures.call
 
 pub returns-clause-file_fault : goal.returns-clause-file_fault
 returns-clause-file_fault g c =
     file_fault_is_right (spelled c.args.words.now)
-    (both_seen (files_seen g.F.Files.told g.F.Files.faults c.args.files.now) (sink_seen g.S.Sink.written g.S.Sink.faults c.args.out.now))
-    (both_seen (files_seen g.F.Files.told g.F.Files.faults c.perform.new.files) (sink_seen g.S.Sink.written g.S.Sink.faults c.perform.new.out))
+    (both_seen (files_seen g.F.Files.told g.F.Files.faults c.args.files.now)
+    (sink_seen g.S.Sink.written g.S.Sink.faults c.args.out.now))
+    (both_seen (files_seen g.F.Files.told g.F.Files.faults c.perform.new.files)
+    (sink_seen g.S.Sink.written g.S.Sink.faults c.perform.new.out))
     c.perform.result c.perform.ensures.call
 
 pub returns-clause-sink_fault : goal.returns-clause-sink_fault
 returns-clause-sink_fault g c =
     sink_fault_is_right (spelled c.args.words.now)
-    (both_seen (files_seen g.F.Files.told g.F.Files.faults c.args.files.now) (sink_seen g.S.Sink.written g.S.Sink.faults c.args.out.now))
-    (both_seen (files_seen g.F.Files.told g.F.Files.faults c.perform.new.files) (sink_seen g.S.Sink.written g.S.Sink.faults c.perform.new.out))
+    (both_seen (files_seen g.F.Files.told g.F.Files.faults c.args.files.now)
+    (sink_seen g.S.Sink.written g.S.Sink.faults c.args.out.now))
+    (both_seen (files_seen g.F.Files.told g.F.Files.faults c.perform.new.files)
+    (sink_seen g.S.Sink.written g.S.Sink.faults c.perform.new.out))
     c.perform.result c.perform.ensures.call
 
 pub returns-clause-cut : goal.returns-clause-cut
 returns-clause-cut g c =
     cuts_are_fronts (spelled c.args.words.now)
-    (both_seen (files_seen g.F.Files.told g.F.Files.faults c.args.files.now) (sink_seen g.S.Sink.written g.S.Sink.faults c.args.out.now))
-    (both_seen (files_seen g.F.Files.told g.F.Files.faults c.perform.new.files) (sink_seen g.S.Sink.written g.S.Sink.faults c.perform.new.out))
+    (both_seen (files_seen g.F.Files.told g.F.Files.faults c.args.files.now)
+    (sink_seen g.S.Sink.written g.S.Sink.faults c.args.out.now))
+    (both_seen (files_seen g.F.Files.told g.F.Files.faults c.perform.new.files)
+    (sink_seen g.S.Sink.written g.S.Sink.faults c.perform.new.out))
     c.perform.result c.perform.ensures.call
 
 pub returns-clause-safe_only : goal.returns-clause-safe_only
 returns-clause-safe_only g c =
     safe_only (spelled c.args.words.now)
-    (both_seen (files_seen g.F.Files.told g.F.Files.faults c.args.files.now) (sink_seen g.S.Sink.written g.S.Sink.faults c.args.out.now))
-    (both_seen (files_seen g.F.Files.told g.F.Files.faults c.perform.new.files) (sink_seen g.S.Sink.written g.S.Sink.faults c.perform.new.out))
-    c.perform.result c.safe_is_told.ensures c.messages_are_not_safe.ensures c.narrow_layout_is_one_to_one.ensures c.perform.ensures.call
+    (both_seen (files_seen g.F.Files.told g.F.Files.faults c.args.files.now)
+    (sink_seen g.S.Sink.written g.S.Sink.faults c.args.out.now))
+    (both_seen (files_seen g.F.Files.told g.F.Files.faults c.perform.new.files)
+    (sink_seen g.S.Sink.written g.S.Sink.faults c.perform.new.out))
+    c.perform.result c.safe_is_told.ensures c.messages_are_not_safe.ensures c.narrow_layout_is_one_to_one.ensures
+    c.perform.ensures.call
 
 pub returns-clause-safe_runs : goal.returns-clause-safe_runs
 returns-clause-safe_runs g c =
     safe_runs (spelled c.args.words.now)
-    (both_seen (files_seen g.F.Files.told g.F.Files.faults c.args.files.now) (sink_seen g.S.Sink.written g.S.Sink.faults c.args.out.now))
-    (both_seen (files_seen g.F.Files.told g.F.Files.faults c.perform.new.files) (sink_seen g.S.Sink.written g.S.Sink.faults c.perform.new.out))
-    c.perform.result c.safe_is_told.ensures c.messages_are_not_safe.ensures c.narrow_layout_is_one_to_one.ensures c.safe_network_runs_safely.ensures c.perform.ensures.call
+    (both_seen (files_seen g.F.Files.told g.F.Files.faults c.args.files.now)
+    (sink_seen g.S.Sink.written g.S.Sink.faults c.args.out.now))
+    (both_seen (files_seen g.F.Files.told g.F.Files.faults c.perform.new.files)
+    (sink_seen g.S.Sink.written g.S.Sink.faults c.perform.new.out))
+    c.perform.result c.safe_is_told.ensures c.messages_are_not_safe.ensures c.narrow_layout_is_one_to_one.ensures
+    c.safe_network_runs_safely.ensures c.perform.ensures.call
 
 pub returns-clause-safe_if : goal.returns-clause-safe_if
 returns-clause-safe_if g c =
     safe_if (spelled c.args.words.now)
-    (both_seen (files_seen g.F.Files.told g.F.Files.faults c.args.files.now) (sink_seen g.S.Sink.written g.S.Sink.faults c.args.out.now))
-    (both_seen (files_seen g.F.Files.told g.F.Files.faults c.perform.new.files) (sink_seen g.S.Sink.written g.S.Sink.faults c.perform.new.out))
-    c.perform.result c.safe_is_told.ensures c.messages_are_not_safe.ensures c.narrow_layout_is_one_to_one.ensures c.perform.ensures.call
+    (both_seen (files_seen g.F.Files.told g.F.Files.faults c.args.files.now)
+    (sink_seen g.S.Sink.written g.S.Sink.faults c.args.out.now))
+    (both_seen (files_seen g.F.Files.told g.F.Files.faults c.perform.new.files)
+    (sink_seen g.S.Sink.written g.S.Sink.faults c.perform.new.out))
+    c.perform.result c.safe_is_told.ensures c.messages_are_not_safe.ensures c.narrow_layout_is_one_to_one.ensures
+    c.perform.ensures.call
