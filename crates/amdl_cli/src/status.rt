@@ -14,8 +14,8 @@ const NO_MEMORY: u8 = 6;
 /// The status where the system refuses the words for another cause.
 const NO_WORDS: u8 = 7;
 
-/// Runs the program on its arguments, of which the first is its own name, and answers its exit status: that of `run`, or
-/// where the system gave no arguments 6 for want of memory and 7 for every other cause. Then nothing is put out.
+/// Runs the program on its arguments, of which the first is its own name, and answers its exit status: that of `run`,
+/// or where the system gave no arguments 6 for want of memory and 7 for every other cause. Then nothing is put out.
 pub fn status_of_call<F: Files, S: Sink>(
     alloc: Global,
     args: io::Result<Args<Global>>,
