@@ -6,7 +6,6 @@ use std::fmt::Display;
 use std::fs::{Metadata, OpenFile, OpenOptions};
 use std::io::{self, Error, ErrorKind, Read, Seek, SeekFrom, Write};
 use std::rt;
-use std::test::Fail;
 
 const TEXT: &[u8] = b"network x;\nforbid h : true;\n";
 
@@ -180,15 +179,60 @@ impl Print for FailingOutput {
     }
 }
 
-// What a load of the text appends, and what it answers.
-fn loaded(alloc: Global, system: &FailingSystem, limit: usize) -> (Vec<u8>, Result<(), LoadFault>) {
-    let mut into = Vec::new(alloc);
-    let answer = HostFiles::new(system).load(alloc, "net", limit, &mut into);
-    (into, answer)
+// A system that moves one piece at a time, and fails at a call.
+fn moving(piece: usize, failing: Option<u64>, kind: ErrorKind) -> FailingSystem {
+    let plan = Plan {
+        piece,
+        failing,
+        kind,
+    };
+    FailingSystem { plan, opens: None }
 }
 
-// The calls at which a text that moves in pieces fails: the first, one in the middle, the last that moves bytes, and, where
-// it is read, the one that finds its end. Pieces of 0 bytes end a text.
+// A system that opens no file.
+fn shut(kind: ErrorKind) -> FailingSystem {
+    let plan = Plan {
+        piece: 100,
+        failing: None,
+        kind,
+    };
+    FailingSystem {
+        plan,
+        opens: Some(kind),
+    }
+}
+
+// Whether a load of at most so many bytes answers so, and appends so many bytes of the text.
+fn loads(
+    alloc: Global,
+    system: &FailingSystem,
+    limit: usize,
+    answer: Result<(), LoadFault>,
+    kept: usize,
+) -> bool {
+    let mut into = Vec::new(alloc);
+    let loaded = HostFiles::new(system).load(alloc, "net", limit, &mut into);
+    loaded == answer && into.len() == kept && TEXT.starts_with(into.as_slice())
+}
+
+// Whether a store of the text answers so.
+fn stores(alloc: Global, system: &FailingSystem, answer: Result<(), StoreFault>) -> bool {
+    HostFiles::new(system).store(alloc, "net", TEXT) == answer
+}
+
+// Whether a put of the text answers so, makes so many calls, and so many bytes of it are taken.
+fn puts(alloc: Global, plan: Plan, answer: Result<(), SinkFault>, calls: u64, kept: usize) -> bool {
+    let output = FailingOutput {
+        plan,
+        calls: Cell::new(0),
+        taken: Cell::new(0),
+    };
+    let put = HostSink::new(&output).put(alloc, TEXT);
+    put == answer && output.calls.get() == calls && output.taken.get() == kept
+}
+
+// The calls at which a text that moves in pieces fails: the first, one in the middle, the last that moves bytes, and,
+// where it is read, the one that finds its end. Pieces of 0 bytes end a text.
 const FAILING_READS: [(&str, usize, u64, usize); 6] = [
     ("one byte a read, the first fails", 1, 0, 0),
     ("one byte a read, one in the middle fails", 1, 11, 11),
@@ -198,153 +242,155 @@ const FAILING_READS: [(&str, usize, u64, usize); 6] = [
     ("all bytes a read, the one at the end fails", 100, 1, 28),
 ];
 
+const READ_FAULTS: [(ErrorKind, LoadFault); 4] = [
+    (ErrorKind::Other, LoadFault::Failed),
+    (ErrorKind::UnexpectedEof, LoadFault::Failed),
+    (ErrorKind::NotFound, LoadFault::Failed),
+    (ErrorKind::OutOfMemory, LoadFault::NoMemory),
+];
+
 #[test]
 fn a_failed_read_is_a_failed_load(rt: HostRuntime) {
-    for (label, piece, call, kept) in FAILING_READS {
-        for (kind, fault) in [
-            (ErrorKind::Other, LoadFault::Failed),
-            (ErrorKind::UnexpectedEof, LoadFault::Failed),
-            (ErrorKind::NotFound, LoadFault::Failed),
-            (ErrorKind::OutOfMemory, LoadFault::NoMemory),
-        ] {
-            let plan = Plan {
-                piece,
-                failing: Some(call),
-                kind,
-            };
-            let (into, answer) = loaded(rt.alloc(), &FailingSystem { plan, opens: None }, 28);
-            assert!(rt; answer == Err(fault), "{label}: the answer");
-            assert!(rt; into.as_slice() == &TEXT[..kept], "{label}: the bytes");
+    for (label, piece, call, kept) in &FAILING_READS {
+        for (kind, fault) in &READ_FAULTS {
+            let system = moving(*piece, Some(*call), *kind);
+            assert!(rt;
+                loads(rt.alloc(), &system, 28, Err(*fault), *kept),
+                "{label}"
+            );
         }
     }
 }
 
-#[test]
-fn a_short_read_goes_on(rt: HostRuntime) {
-    for (label, piece) in [("one byte", 1), ("ten bytes", 10), ("all bytes", 100)] {
-        let plan = Plan {
-            piece,
-            failing: None,
-            kind: ErrorKind::Other,
-        };
-        let system = FailingSystem { plan, opens: None };
-        let (into, answer) = loaded(rt.alloc(), &system, 28);
-        assert!(rt; answer == Ok(()), "{label} a read");
-        assert!(rt; into.as_slice() == TEXT, "{label} a read: the bytes");
-        let (into, answer) = loaded(rt.alloc(), &system, 27);
-        assert!(rt;
-            answer == Err(LoadFault::TooLong),
-            "{label} a read, too long"
-        );
-        assert!(rt;
-            into.as_slice() == &TEXT[..27],
-            "{label} a read, too long: the bytes"
-        );
-    }
+// A text of 28 bytes, which fits a load of 28 bytes and not one of 27.
+const SHORT_READS: [(&str, usize, usize, Option<LoadFault>); 6] = [
+    ("one byte a read", 1, 28, None),
+    ("one byte a read, too long", 1, 27, Some(LoadFault::TooLong)),
+    ("ten bytes a read", 10, 28, None),
+    (
+        "ten bytes a read, too long",
+        10,
+        27,
+        Some(LoadFault::TooLong),
+    ),
+    ("all bytes a read", 100, 28, None),
+    (
+        "all bytes a read, too long",
+        100,
+        27,
+        Some(LoadFault::TooLong),
+    ),
+];
+
+// Whether a load of pieces answers so, and appends all bytes to its limit.
+fn goes_on(alloc: Global, piece: usize, limit: usize, fault: Option<LoadFault>) -> bool {
+    let answer = match fault {
+        Some(fault) => Err(fault),
+        None => Ok(()),
+    };
+    loads(
+        alloc,
+        &moving(piece, None, ErrorKind::Other),
+        limit,
+        answer,
+        limit,
+    )
 }
 
 #[test]
+fn a_short_read_goes_on(rt: HostRuntime) {
+    for (label, piece, limit, fault) in &SHORT_READS {
+        assert!(rt; goes_on(rt.alloc(), *piece, *limit, *fault), "{label}");
+    }
+}
+
+const NOT_OPENED: [(&str, ErrorKind, LoadFault, StoreFault); 4] = [
+    (
+        "there is none",
+        ErrorKind::NotFound,
+        LoadFault::Missing,
+        StoreFault::Failed,
+    ),
+    (
+        "no right",
+        ErrorKind::PermissionDenied,
+        LoadFault::Failed,
+        StoreFault::Failed,
+    ),
+    (
+        "a folder",
+        ErrorKind::IsADirectory,
+        LoadFault::Failed,
+        StoreFault::Failed,
+    ),
+    (
+        "no memory",
+        ErrorKind::OutOfMemory,
+        LoadFault::NoMemory,
+        StoreFault::NoMemory,
+    ),
+];
+
+#[test]
 fn a_file_that_is_not_opened(rt: HostRuntime) {
-    for (label, kind, load, store) in [
-        (
-            "there is none",
-            ErrorKind::NotFound,
-            LoadFault::Missing,
-            StoreFault::Failed,
-        ),
-        (
-            "no right",
-            ErrorKind::PermissionDenied,
-            LoadFault::Failed,
-            StoreFault::Failed,
-        ),
-        (
-            "a folder",
-            ErrorKind::IsADirectory,
-            LoadFault::Failed,
-            StoreFault::Failed,
-        ),
-        (
-            "no memory",
-            ErrorKind::OutOfMemory,
-            LoadFault::NoMemory,
-            StoreFault::NoMemory,
-        ),
-    ] {
-        let plan = Plan {
-            piece: 100,
-            failing: None,
-            kind,
-        };
-        let system = FailingSystem {
-            plan,
-            opens: Some(kind),
-        };
-        let (into, answer) = loaded(rt.alloc(), &system, 28);
-        assert!(rt; answer == Err(load), "load: {label}");
-        assert!(rt; into.is_empty(), "load: {label}: the bytes");
-        let stored = HostFiles::new(&system).store(rt.alloc(), "net", TEXT);
-        assert!(rt; stored == Err(store), "store: {label}");
+    for (label, kind, load, store) in &NOT_OPENED {
+        let system = shut(*kind);
+        assert!(rt;
+            loads(rt.alloc(), &system, 28, Err(*load), 0),
+            "load: {label}"
+        );
+        assert!(rt; stores(rt.alloc(), &system, Err(*store)), "store: {label}");
     }
 }
 
 // A write of no bytes is a fault.
-const FAILING_WRITES: [(&str, usize, Option<u64>, usize); 6] = [
-    ("one byte a write, the first fails", 1, Some(0), 0),
-    ("one byte a write, one in the middle fails", 1, Some(11), 11),
-    ("one byte a write, the last fails", 1, Some(27), 27),
-    ("ten bytes a write, the second fails", 10, Some(1), 10),
-    ("all bytes a write, the first fails", 100, Some(0), 0),
-    ("no byte a write", 0, None, 0),
+const FAILING_WRITES: [(&str, usize, Option<u64>, u64, usize); 6] = [
+    ("one byte a write, the first fails", 1, Some(0), 1, 0),
+    (
+        "one byte a write, one in the middle fails",
+        1,
+        Some(11),
+        12,
+        11,
+    ),
+    ("one byte a write, the last fails", 1, Some(27), 28, 27),
+    ("ten bytes a write, the second fails", 10, Some(1), 2, 10),
+    ("all bytes a write, the first fails", 100, Some(0), 1, 0),
+    ("no byte a write", 0, None, 1, 0),
 ];
 
 #[test]
 fn a_failed_write_is_a_fault(rt: HostRuntime) {
-    for (label, piece, failing, kept) in FAILING_WRITES {
-        let plan = Plan {
-            piece,
-            failing,
-            kind: ErrorKind::Other,
-        };
-        let system = FailingSystem { plan, opens: None };
-        let stored = HostFiles::new(&system).store(rt.alloc(), "net", TEXT);
-        assert!(rt; stored == Err(StoreFault::Failed), "store: {label}");
-        let output = FailingOutput {
-            plan,
-            calls: Cell::new(0),
-            taken: Cell::new(0),
-        };
-        let put = HostSink::new(&output).put(rt.alloc(), TEXT);
-        assert!(rt; put == Err(SinkFault::Failed), "put: {label}");
-        assert!(rt; output.taken.get() == kept, "put: {label}: the bytes");
+    for (label, piece, failing, calls, kept) in &FAILING_WRITES {
+        let system = moving(*piece, *failing, ErrorKind::Other);
+        assert!(rt;
+            stores(rt.alloc(), &system, Err(StoreFault::Failed)),
+            "store: {label}"
+        );
+        let put = puts(
+            rt.alloc(),
+            system.plan,
+            Err(SinkFault::Failed),
+            *calls,
+            *kept,
+        );
+        assert!(rt; put, "put: {label}");
     }
 }
 
+// The call behind the last one would fail.
+const SHORT_WRITES: [(&str, usize, u64); 3] = [
+    ("one byte a write", 1, 28),
+    ("ten bytes a write", 10, 3),
+    ("all bytes a write", 100, 1),
+];
+
 #[test]
-fn a_short_write_goes_on(rt: HostRuntime) -> Result<(), Fail> {
-    for (label, piece, calls) in [
-        ("one byte", 1, 28),
-        ("ten bytes", 10, 3),
-        ("all bytes", 100, 1),
-    ] {
-        let plan = Plan {
-            piece,
-            failing: Some(calls),
-            kind: ErrorKind::Other,
-        };
-        let system = FailingSystem { plan, opens: None };
-        HostFiles::new(&system).store(rt.alloc(), "net", TEXT)?;
-        let output = FailingOutput {
-            plan,
-            calls: Cell::new(0),
-            taken: Cell::new(0),
-        };
-        HostSink::new(&output).put(rt.alloc(), TEXT)?;
-        assert!(rt; output.calls.get() == calls, "{label} a write: the calls");
-        assert!(rt;
-            output.taken.get() == TEXT.len(),
-            "{label} a write: the bytes"
-        );
+fn a_short_write_goes_on(rt: HostRuntime) {
+    for (label, piece, calls) in &SHORT_WRITES {
+        let system = moving(*piece, Some(*calls), ErrorKind::Other);
+        assert!(rt; stores(rt.alloc(), &system, Ok(())), "store: {label}");
+        let put = puts(rt.alloc(), system.plan, Ok(()), *calls, TEXT.len());
+        assert!(rt; put, "put: {label}");
     }
-    Ok(())
 }

@@ -89,26 +89,44 @@ fn are_paths(found: &List<u32>) -> bool {
     found.as_slice() == &PATHS[..]
 }
 
+// Whether these are the paths, found without a memory.
+fn finds<S: CellSet, L: Ledger>(alloc: Global, blank: Blank) -> bool
+    requires name { blank.name ≡ L.name }
+    requires parts { blank.parts ≡ L.parts }
+    requires some { 0 < blank.parts }
+{
+    match paths::<S, L>(alloc, blank) {
+        Ok(found) => are_paths(&found),
+        Err(_) => false,
+    }
+}
+
+// Whether these are the paths, found with a memory, both times.
+fn finds_again<S: CellSet, L: Ledger>(alloc: Global, blank: Blank) -> bool
+    requires name { blank.name ≡ L.name }
+    requires parts { blank.parts ≡ L.parts }
+    requires some { 0 < blank.parts }
+{
+    match remembered_paths::<S, L>(alloc, blank) {
+        Ok((first, again)) => are_paths(&first) && are_paths(&again),
+        Err(_) => false,
+    }
+}
+
 #[test]
 fn paths_without_memory(rt: HostRuntime) {
-    let bytes = paths::<ByteSet, Brand>(rt.alloc(), Blank::new(1));
-    assert_eq!(rt; bytes.map(|found| are_paths(&found)), Ok(true), "bytes");
-    let bits = paths::<BitSet, Brand>(rt.alloc(), Blank::new(1));
-    assert_eq!(rt; bits.map(|found| are_paths(&found)), Ok(true), "bits");
+    assert!(rt; finds::<ByteSet, Brand>(rt.alloc(), Blank::new(1)), "bytes");
+    assert!(rt; finds::<BitSet, Brand>(rt.alloc(), Blank::new(1)), "bits");
 }
 
 #[test]
 fn paths_with_memory(rt: HostRuntime) {
-    let bytes = remembered_paths::<ByteSet, Brand>(rt.alloc(), Blank::new(1));
-    assert_eq!(rt;
-        bytes.map(|found| are_paths(&found.0) && are_paths(&found.1)),
-        Ok(true),
+    assert!(rt;
+        finds_again::<ByteSet, Brand>(rt.alloc(), Blank::new(1)),
         "bytes"
     );
-    let bits = remembered_paths::<BitSet, Brand>(rt.alloc(), Blank::new(1));
-    assert_eq!(rt;
-        bits.map(|found| are_paths(&found.0) && are_paths(&found.1)),
-        Ok(true),
+    assert!(rt;
+        finds_again::<BitSet, Brand>(rt.alloc(), Blank::new(1)),
         "bits"
     );
 }
@@ -116,7 +134,7 @@ fn paths_with_memory(rt: HostRuntime) {
 #[test]
 fn ring_is_no_line(rt: HostRuntime) {
     let line = acyclic::<ByteSet, Brand>(rt.alloc(), Blank::new(1), &[(0, 1), (1, 2), (2, 3)]);
-    assert_eq!(rt; line, Ok(true), "line, bytes");
+    assert!(rt; line == Ok(true), "line, bytes");
     let ring = acyclic::<BitSet, Brand>(rt.alloc(), Blank::new(1), &[(0, 1), (1, 2), (2, 0)]);
-    assert_eq!(rt; ring, Ok(false), "ring, bits");
+    assert!(rt; ring == Ok(false), "ring, bits");
 }

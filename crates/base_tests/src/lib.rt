@@ -1,7 +1,9 @@
-//! Tests of the crates below the program: of what no clause says, in a crate of their own, so that none is proved once more for its
-//! tests.
+//! Tests of the crates below the program: of what no clause says, in a crate of their own, so that none is proved once
+//! more for its tests.
 #![tactic(auto)]
 
+#[cfg(test)]
+mod boxes;
 #[cfg(test)]
 mod failing_system;
 #[cfg(test)]

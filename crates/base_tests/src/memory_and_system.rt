@@ -1,5 +1,5 @@
-//! Files and sinks in memory and over the system, by themselves. What a call in memory answers is a clause but for want of
-//! memory, so each is called once; what the system's files answer is seen here alone.
+//! Files and sinks in memory and over the system, by themselves. What a call in memory answers is a clause but for want
+//! of memory, so each is called once; what the system's files answer is seen here alone.
 use outside::{
     Files, HostFiles, HostSink, LoadFault, MemoryFiles, MemorySink, Sink, SinkFault, StoreFault,
     SureFiles, SureSink,
@@ -20,13 +20,34 @@ fn loaded<F: Files>(
     Ok(into)
 }
 
+// Whether a load of at most so many bytes appends these.
+fn holds<F: Files>(alloc: Global, files: &mut F, name: &str, limit: usize, bytes: &[u8]) -> bool {
+    match loaded(alloc, files, name, limit) {
+        Ok(into) => into.as_slice() == bytes,
+        Err(_) => false,
+    }
+}
+
+// Whether a load of at most so many bytes fails so.
+fn fails<F: Files>(
+    alloc: Global,
+    files: &mut F,
+    name: &str,
+    limit: usize,
+    fault: LoadFault,
+) -> bool {
+    match loaded(alloc, files, name, limit) {
+        Ok(_) => false,
+        Err(other) => other == fault,
+    }
+}
+
 #[test]
 fn sure_files(rt: HostRuntime) -> Result<(), Fail> {
     let mut files = SureFiles::new(rt.alloc());
     files.keep("net", b"old")?;
     files.store(rt.alloc(), "net", b"wire")?;
-    let into = loaded(rt.alloc(), &mut files, "net", 4)?;
-    assert!(rt; into.as_slice() == b"wire".as_slice());
+    assert!(rt; holds(rt.alloc(), &mut files, "net", 4, b"wire"));
     Ok(())
 }
 
@@ -36,8 +57,7 @@ fn memory_files(rt: HostRuntime) -> Result<(), Fail> {
     files.keep("net", b"old")?;
     files.fail_call(2, 1)?;
     files.store(rt.alloc(), "net", b"wire")?;
-    let into = loaded(rt.alloc(), &mut files, "net", 4)?;
-    assert!(rt; into.as_slice() == b"wire".as_slice());
+    assert!(rt; holds(rt.alloc(), &mut files, "net", 4, b"wire"));
     assert!(rt; files.store(rt.alloc(), "net", b"xyz") == Err(StoreFault::Failed));
     assert!(rt; files.bytes("net") == Some(b"x"));
     Ok(())
@@ -69,9 +89,8 @@ fn a_file_of_the_system(rt: HostRuntime) -> Result<(), Fail> {
     let mut files = HostFiles::new(&rt);
     files.store(rt.alloc(), FILE, b"older and longer")?;
     files.store(rt.alloc(), FILE, b"wire")?;
-    let into = loaded(rt.alloc(), &mut files, FILE, 4)?;
-    assert!(rt; into.as_slice() == b"wire".as_slice());
-    assert!(rt; loaded(rt.alloc(), &mut files, FILE, 3).err() == Some(LoadFault::TooLong));
+    assert!(rt; holds(rt.alloc(), &mut files, FILE, 4, b"wire"));
+    assert!(rt; fails(rt.alloc(), &mut files, FILE, 3, LoadFault::TooLong));
     fs::remove_file(&rt, FILE)?;
     Ok(())
 }
@@ -82,25 +101,24 @@ const FOLDER: &str = "outside-test-folder";
 fn a_folder_of_the_system(rt: HostRuntime) -> Result<(), Fail> {
     let mut files = HostFiles::new(&rt);
     fs::create_dir(&rt, FOLDER)?;
-    assert!(rt; loaded(rt.alloc(), &mut files, FOLDER, 3).err() == Some(LoadFault::Failed));
+    assert!(rt; fails(rt.alloc(), &mut files, FOLDER, 3, LoadFault::Failed));
     assert!(rt; files.store(rt.alloc(), FOLDER, b"wire") == Err(StoreFault::Failed));
     fs::remove_dir(&rt, FOLDER)?;
     Ok(())
 }
 
+const NO_FILES: [(&str, LoadFault); 4] = [
+    ("outside-test-none", LoadFault::Missing),
+    ("", LoadFault::Missing),
+    ("outside-test-none/file", LoadFault::Missing),
+    ("outside\0test", LoadFault::Failed),
+];
+
 #[test]
 fn no_file_of_the_system(rt: HostRuntime) {
     let mut files = HostFiles::new(&rt);
-    for (name, fault) in [
-        ("outside-test-none", LoadFault::Missing),
-        ("", LoadFault::Missing),
-        ("outside-test-none/file", LoadFault::Missing),
-        ("outside\0test", LoadFault::Failed),
-    ] {
-        assert!(rt;
-            loaded(rt.alloc(), &mut files, name, 3).err() == Some(fault),
-            "{name}"
-        );
+    for (name, fault) in &NO_FILES {
+        assert!(rt; fails(rt.alloc(), &mut files, name, 3, *fault), "{name}");
     }
     assert!(rt; files.store(rt.alloc(), "outside-test-none/file", b"") == Err(StoreFault::Failed));
 }
@@ -118,9 +136,8 @@ fn the_system_reads_in_blocks(rt: HostRuntime) -> Result<(), Fail> {
     let name = "outside-test-blocks";
     let stored = vec![in rt.alloc(); 7u8; 20_000]?;
     files.store(rt.alloc(), name, &stored)?;
-    let into = loaded(rt.alloc(), &mut files, name, 20_000)?;
-    assert!(rt; into.as_slice() == stored.as_slice());
-    assert!(rt; loaded(rt.alloc(), &mut files, name, 19_999).err() == Some(LoadFault::TooLong));
+    assert!(rt; holds(rt.alloc(), &mut files, name, 20_000, &stored));
+    assert!(rt; fails(rt.alloc(), &mut files, name, 19_999, LoadFault::TooLong));
     fs::remove_file(&rt, name)?;
     Ok(())
 }

@@ -6,23 +6,24 @@ use std::alloc::Global;
 const WIRE: &[u8] =
     b"network wire;\ntype Addr = {a, b};\nfield src : Addr;\nfield dst : Addr;\nhost p;\nhost q;\nlink p -- q;\nsends p : src = a;\nforbid q : src = a, dst = b;\n";
 
-const SIGNS: [Sign; 16] = [
-    Sign::Semicolon,
-    Sign::Colon,
-    Sign::Becomes,
-    Sign::Comma,
-    Sign::Point,
-    Sign::OpenBrace,
-    Sign::CloseBrace,
-    Sign::OpenParen,
-    Sign::CloseParen,
-    Sign::OpenBracket,
-    Sign::CloseBracket,
-    Sign::Equals,
-    Sign::Differs,
-    Sign::Arrow,
-    Sign::Dashes,
-    Sign::Bar,
+// Each sign, and where it starts with a blank behind each.
+const SIGNS: [(Sign, u32); 16] = [
+    (Sign::Semicolon, 0),
+    (Sign::Colon, 2),
+    (Sign::Becomes, 4),
+    (Sign::Comma, 7),
+    (Sign::Point, 9),
+    (Sign::OpenBrace, 11),
+    (Sign::CloseBrace, 13),
+    (Sign::OpenParen, 15),
+    (Sign::CloseParen, 17),
+    (Sign::OpenBracket, 19),
+    (Sign::CloseBracket, 21),
+    (Sign::Equals, 23),
+    (Sign::Differs, 25),
+    (Sign::Arrow, 28),
+    (Sign::Dashes, 31),
+    (Sign::Bar, 34),
 ];
 
 // A short text's tokens.
@@ -43,6 +44,11 @@ fn at(tokens: &List<Lexed>, index: usize) -> Option<Lexed> {
     tokens.as_slice().get(index).copied()
 }
 
+// Whether this token stands at the index, or none.
+fn is_at(tokens: &List<Lexed>, index: usize, token: Option<Lexed>) -> bool {
+    at(tokens, index) == token
+}
+
 fn placed(token: Token, start: u32, end: u32) -> Option<Lexed> {
     Some(Lexed { token, start, end })
 }
@@ -55,7 +61,7 @@ fn named(name: &[u8], start: u32, end: u32) -> Option<Lexed> {
 #[test]
 fn tokens_of_a_network(rt: HostRuntime) -> Result<(), LexRefusal> {
     let tokens = tokens_of(rt.alloc(), WIRE)?;
-    assert_eq!(rt; tokens.as_slice().len(), 51);
+    assert!(rt; tokens.as_slice().len() == 51);
     let places = [
         (0, placed(Token::Key(Reserved::Network), 0, 7)),
         (1, named(b"wire", 8, 12)),
@@ -67,29 +73,42 @@ fn tokens_of_a_network(rt: HostRuntime) -> Result<(), LexRefusal> {
         (49, named(b"b", 144, 145)),
         (50, placed(Token::Sign(Sign::Semicolon), 145, 146)),
     ];
-    for (index, token) in places {
-        assert_eq!(rt; at(&tokens, index), token, "token {index}");
+    for (index, token) in &places {
+        assert!(rt; is_at(&tokens, *index, *token), "token {index}");
     }
     Ok(())
+}
+
+// Whether the sign is the token at the index, and starts there.
+fn is_sign_from(tokens: &List<Lexed>, index: usize, sign: Sign, start: u32) -> bool {
+    let end = start.saturating_add(sign.spelling().len() as u32);
+    is_at(tokens, index, placed(Token::Sign(sign), start, end))
 }
 
 #[test]
 fn every_sign(rt: HostRuntime) -> Result<(), LexRefusal> {
     let apart = tokens_of(rt.alloc(), b"; : := , . { } ( ) [ ] = != -> -- |")?;
+    assert!(rt; apart.as_slice().len() == 16);
+    for (index, (sign, start)) in SIGNS.iter().enumerate() {
+        assert!(rt; is_sign_from(&apart, index, *sign, *start), "sign {index}");
+    }
+    Ok(())
+}
+
+// Whether the sign is the token at the index.
+fn is_sign(tokens: &List<Lexed>, index: usize, sign: Sign) -> bool {
+    match at(tokens, index) {
+        Some(lexed) => lexed.token == Token::Sign(sign),
+        None => false,
+    }
+}
+
+#[test]
+fn every_sign_without_blanks(rt: HostRuntime) -> Result<(), LexRefusal> {
     let close = tokens_of(rt.alloc(), b";::=,.{}()[]=!=->--|")?;
-    let starts = [0, 2, 4, 7, 9, 11, 13, 15, 17, 19, 21, 23, 25, 28, 31, 34];
-    assert_eq!(rt; apart.as_slice().len(), 16);
-    assert_eq!(rt; close.as_slice().len(), 16);
-    for (index, sign) in SIGNS.iter().enumerate() {
-        let end = starts[index] + sign.spelling().len() as u32;
-        assert_eq!(rt;
-            at(&apart, index),
-            placed(Token::Sign(*sign), starts[index], end)
-        );
-        assert_eq!(rt;
-            at(&close, index).map(|lexed| lexed.token),
-            Some(Token::Sign(*sign))
-        );
+    assert!(rt; close.as_slice().len() == 16);
+    for (index, (sign, _)) in SIGNS.iter().enumerate() {
+        assert!(rt; is_sign(&close, index, *sign), "sign {index}");
     }
     Ok(())
 }
@@ -114,7 +133,7 @@ fn tokens_side_by_side(rt: HostRuntime) -> Result<(), LexRefusal> {
         None,
     ];
     for (index, token) in places.iter().enumerate() {
-        assert_eq!(rt; at(&tokens, index), *token, "token {index}");
+        assert!(rt; is_at(&tokens, index, *token), "token {index}");
     }
     Ok(())
 }
@@ -122,9 +141,9 @@ fn tokens_side_by_side(rt: HostRuntime) -> Result<(), LexRefusal> {
 #[test]
 fn blanks_and_comments(rt: HostRuntime) -> Result<(), LexRefusal> {
     let tokens = tokens_of(rt.alloc(), b"\r\t#\xff @\r!\n host#p;")?;
-    assert_eq!(rt; tokens.as_slice().len(), 1);
-    assert_eq!(rt; at(&tokens, 0), placed(Token::Key(Reserved::Host), 10, 14));
-    assert_eq!(rt; count_of(rt.alloc(), b""), Ok(0));
-    assert_eq!(rt; count_of(rt.alloc(), b" \t\r\n##\n#"), Ok(0));
+    assert!(rt; tokens.as_slice().len() == 1);
+    assert!(rt; is_at(&tokens, 0, placed(Token::Key(Reserved::Host), 10, 14)));
+    assert!(rt; count_of(rt.alloc(), b"") == Ok(0));
+    assert!(rt; count_of(rt.alloc(), b" \t\r\n##\n#") == Ok(0));
     Ok(())
 }
