@@ -1,8 +1,9 @@
 //! `analyse` over files that are sure, and over the real ones.
 use crate::networks::WIRE;
-use crate::texts::{SAFE_WIRE, analyse, analysis_of, full};
+use crate::texts::{SAFE_WIRE, analyse, analysis_of, full, misses, replies};
 use amdl_app::run;
 use outside::{HostFiles, HostSink, SureFiles, SureSink};
+use std::alloc::Global;
 use std::fs;
 use std::test::Fail;
 
@@ -14,22 +15,22 @@ const SAFE_REPORT: &str =
 
 #[test]
 fn both_wires(rt: HostRuntime) -> Result<(), Fail> {
-    let (status, out) = analysis_of(rt.alloc(), WIRE)?;
-    assert_eq!(rt; status, 1);
-    assert_eq!(rt; out.bytes(), ALARM_REPORT.as_bytes());
-    let (status, out) = analysis_of(rt.alloc(), SAFE_WIRE)?;
-    assert_eq!(rt; status, 0);
-    assert_eq!(rt; out.bytes(), SAFE_REPORT.as_bytes());
+    let alarm = ALARM_REPORT.as_bytes();
+    assert!(rt;
+        replies(rt.alloc(), "analyse", WIRE.as_bytes(), 1, alarm)?,
+        "alarm"
+    );
+    let safe = SAFE_REPORT.as_bytes();
+    assert!(rt;
+        replies(rt.alloc(), "analyse", SAFE_WIRE.as_bytes(), 0, safe)?,
+        "safe"
+    );
     Ok(())
 }
 
 #[test]
 fn no_such_file(rt: HostRuntime) -> Result<(), Fail> {
-    let mut files = SureFiles::new(rt.alloc());
-    let mut out = SureSink::new(rt.alloc());
-    let status = analyse(rt.alloc(), "none.amdl", &mut files, &mut out)?;
-    assert_eq!(rt; status, 4);
-    assert_eq!(rt; out.bytes(), b"missing none.amdl\n".as_slice());
+    assert!(rt; misses(rt.alloc(), "analyse")?);
     Ok(())
 }
 
@@ -38,55 +39,65 @@ fn no_words(rt: HostRuntime) {
     let mut files = SureFiles::new(rt.alloc());
     let mut out = SureSink::new(rt.alloc());
     let status = run(rt.alloc(), &[], &mut files, &mut out);
-    assert_eq!(rt; status, 2);
-    assert_eq!(rt;
-        out.bytes(),
-        b"usage: amdl VERB WORD [WORD]\nverbs: analyse format\n".as_slice()
-    );
+    assert!(rt; status == 2);
+    let usage = b"usage: amdl VERB WORD [WORD]\nverbs: analyse format\n".as_slice();
+    assert!(rt; out.bytes() == usage);
 }
+
+const FULL_HEAD: &[u8] =
+    b"network full hosts 2 boxes 0 packets 65536\nfacts out 65536 state 0 abort 0\nALARM 65536\ndeliver q 0 from p : f0 = v0, f1 = v0, f2 = v0, f3 = v0\n";
+
+const FULL_END: &[u8] = b"deliver q 999 from p : f0 = v0, f1 = v3, f2 = v14, f3 = v7\nmore 64536\n";
 
 #[test]
 fn each_packet_is_bad(rt: HostRuntime) -> Result<(), Fail> {
     let text = full(rt.alloc(), 16, 4)?;
     let (status, out) = analysis_of(rt.alloc(), text.as_str())?;
-    assert_eq!(rt; status, 1);
-    let head =
-        b"network full hosts 2 boxes 0 packets 65536\nfacts out 65536 state 0 abort 0\nALARM 65536\ndeliver q 0 from p : f0 = v0, f1 = v0, f2 = v0, f3 = v0\n";
-    assert!(rt; out.bytes().starts_with(head.as_slice()));
-    assert!(rt;
-        out.bytes().ends_with(
-            b"deliver q 999 from p : f0 = v0, f1 = v3, f2 = v14, f3 = v7\nmore 64536\n".as_slice()
-        )
-    );
-    assert_eq!(rt;
-        out.bytes().iter().filter(|byte| **byte == b'\n').count(),
-        1004
-    );
+    let lines = out.bytes().iter().filter(|byte| **byte == b'\n').count();
+    assert!(rt; status == 1 && lines == 1004);
+    assert!(rt; out.bytes().starts_with(FULL_HEAD));
+    assert!(rt; out.bytes().ends_with(FULL_END));
     Ok(())
+}
+
+const REFUSED: &[u8] = b"refused network FirstForm\n";
+
+// Whether the network of so many values and fields is refused.
+fn has_no_form(alloc: Global, values: u32, fields: u32) -> Result<bool, Fail> {
+    let text = full(alloc, values, fields)?;
+    replies(alloc, "analyse", text.as_bytes(), 3, REFUSED)
 }
 
 #[test]
 fn the_form_has_limits(rt: HostRuntime) -> Result<(), Fail> {
-    let refused = b"refused network FirstForm\n".as_slice();
-    for (values, fields) in [(17, 1), (1, 5), (16, 5)] {
-        let text = full(rt.alloc(), values, fields)?;
-        let (status, out) = analysis_of(rt.alloc(), text.as_str())?;
-        assert_eq!(rt; status, 3, "{values} values, {fields} fields");
-        assert_eq!(rt; out.bytes(), refused, "{values} values, {fields} fields");
+    for (values, fields) in &[(17, 1), (1, 5), (16, 5)] {
+        let refused = has_no_form(rt.alloc(), *values, *fields)?;
+        assert!(rt; refused, "{values} values, {fields} fields");
     }
-    let longest =
-        "network abcdefghijklmnopqrstuvwx;\ntype T = {v};\nfield f : T;\nhost p;\nhost q;\nlink q -- p;\nsends q : true;\nforbid q : f = v;\n";
-    let (status, out) = analysis_of(rt.alloc(), longest)?;
-    assert_eq!(rt; status, 0);
-    assert_eq!(rt;
-        out.bytes(),
-        b"network abcdefghijklmnopqrstuvwx hosts 2 boxes 0 packets 1\nfacts out 1 state 0 abort 0\nSAFE\n".as_slice()
-    );
-    let longer =
-        "network abcdefghijklmnopqrstuvwxy;\ntype T = {v};\nfield f : T;\nhost p;\nhost q;\nlink q -- p;\nsends q : true;\nforbid q : f = v;\n";
-    let (status, out) = analysis_of(rt.alloc(), longer)?;
-    assert_eq!(rt; status, 3);
-    assert_eq!(rt; out.bytes(), refused);
+    Ok(())
+}
+
+const NAMES: [(&str, u8, &[u8]); 2] = [
+    (
+        "network abcdefghijklmnopqrstuvwx;\ntype T = {v};\nfield f : T;\nhost p;\nhost q;\nlink q -- p;\nsends q : true;\nforbid q : f = v;\n",
+        0,
+        b"network abcdefghijklmnopqrstuvwx hosts 2 boxes 0 packets 1\nfacts out 1 state 0 abort 0\nSAFE\n",
+    ),
+    (
+        "network abcdefghijklmnopqrstuvwxy;\ntype T = {v};\nfield f : T;\nhost p;\nhost q;\nlink q -- p;\nsends q : true;\nforbid q : f = v;\n",
+        3,
+        REFUSED,
+    ),
+];
+
+#[test]
+fn the_longest_name(rt: HostRuntime) -> Result<(), Fail> {
+    for (text, status, out) in &NAMES {
+        assert!(rt;
+            replies(rt.alloc(), "analyse", text.as_bytes(), *status, out)?,
+            "{text}"
+        );
+    }
     Ok(())
 }
 
@@ -96,8 +107,8 @@ fn real_files(rt: HostRuntime) -> Result<(), Fail> {
     let mut files = HostFiles::new(&rt);
     let mut out = HostSink::new(&rt);
     let status = analyse(rt.alloc(), "wire-of-a-test.amdl", &mut files, &mut out)?;
-    assert_eq!(rt; status, 0);
+    assert!(rt; status == 0);
     let status = analyse(rt.alloc(), "no-such-file.amdl", &mut files, &mut out)?;
-    assert_eq!(rt; status, 4);
+    assert!(rt; status == 4);
     Ok(())
 }

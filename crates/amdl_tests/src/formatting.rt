@@ -1,16 +1,15 @@
 //! `format` over files that are sure.
 use crate::networks;
-use crate::texts::{call, reply_of};
-use outside::{SureFiles, SureSink};
+use crate::refusals::is_refused;
+use crate::texts::{misses, replies};
 use std::alloc::{AllocError, Global};
 use std::test::Fail;
 
 #[test]
 fn networks_are_their_own_layout(rt: HostRuntime) -> Result<(), Fail> {
-    for text in networks::ALL {
-        let (status, out) = reply_of(rt.alloc(), "format", text.as_bytes())?;
-        assert_eq!(rt; status, 0, "{text}");
-        assert_eq!(rt; out.bytes(), text.as_bytes(), "{text}");
+    for text in &networks::ALL {
+        let bytes = text.as_bytes();
+        assert!(rt; replies(rt.alloc(), "format", bytes, 0, bytes)?, "{text}");
     }
     Ok(())
 }
@@ -43,31 +42,31 @@ sends p : f = a, g = b;
 forbid p : true;
 ";
 
+const LAYOUTS: [(&str, &str, &str); 5] = [
+    ("each form", FORMS, FORMS),
+    ("a name alone", "network x;", "network x;\n"),
+    (
+        "close together, with a comment, tab and CR",
+        "network x;type A={a,b};field f:A; # no more\r\n\t",
+        "network x;\ntype A = {a, b};\nfield f : A;\n",
+    ),
+    (
+        "a network that isn't well formed",
+        "network expire; host h; host h; link h -- h; sends g : z = y, z = y;",
+        "network expire;\nhost h;\nhost h;\nlink h -- h;\nsends g : z = y, z = y;\n",
+    ),
+    (
+        "an empty class",
+        "network x; middlebox m { port i; on i : { } }",
+        "network x;\nmiddlebox m {\n  port i;\n  on i : {\n  }\n}\n",
+    ),
+];
+
 #[test]
 fn layouts(rt: HostRuntime) -> Result<(), Fail> {
-    let texts = [
-        ("each form", FORMS, FORMS),
-        ("a name alone", "network x;", "network x;\n"),
-        (
-            "close together, with a comment, tab and CR",
-            "network x;type A={a,b};field f:A; # no more\r\n\t",
-            "network x;\ntype A = {a, b};\nfield f : A;\n",
-        ),
-        (
-            "a network that isn't well formed",
-            "network expire; host h; host h; link h -- h; sends g : z = y, z = y;",
-            "network expire;\nhost h;\nhost h;\nlink h -- h;\nsends g : z = y, z = y;\n",
-        ),
-        (
-            "an empty class",
-            "network x; middlebox m { port i; on i : { } }",
-            "network x;\nmiddlebox m {\n  port i;\n  on i : {\n  }\n}\n",
-        ),
-    ];
-    for (label, text, layout) in texts {
-        let (status, out) = reply_of(rt.alloc(), "format", text.as_bytes())?;
-        assert_eq!(rt; status, 0, "{label}");
-        assert_eq!(rt; out.bytes(), layout.as_bytes(), "{label}");
+    for (label, text, layout) in &LAYOUTS {
+        let laid = replies(rt.alloc(), "format", text.as_bytes(), 0, layout.as_bytes())?;
+        assert!(rt; laid, "{label}");
     }
     Ok(())
 }
@@ -85,49 +84,44 @@ fn denied(alloc: Global, nots: u32) -> Result<String, AllocError> {
     Ok(text)
 }
 
+// Whether a handler with so many `not` is its own layout.
+fn is_laid(alloc: Global, nots: u32) -> Result<bool, Fail> {
+    let text = denied(alloc, nots)?;
+    replies(alloc, "format", text.as_bytes(), 0, text.as_bytes())
+}
+
+// Whether it is refused with these words.
+fn is_too_deep(alloc: Global, nots: u32, why: &str) -> Result<bool, Fail> {
+    let text = denied(alloc, nots)?;
+    is_refused(alloc, text.as_bytes(), why)
+}
+
 #[test]
 fn the_thirty_third_level(rt: HostRuntime) -> Result<(), Fail> {
-    let deepest = denied(rt.alloc(), 31)?;
-    let (status, out) = reply_of(rt.alloc(), "format", deepest.as_bytes())?;
-    assert_eq!(rt; status, 0, "31 not within an if");
-    assert_eq!(rt; out.bytes(), deepest.as_bytes(), "31 not within an if");
-    let deeper = denied(rt.alloc(), 32)?;
-    let (status, out) = reply_of(rt.alloc(), "format", deeper.as_bytes())?;
-    assert_eq!(rt; status, 3, "32 not within an if");
-    assert_eq!(rt;
-        out.bytes(),
-        b"refused network token 45 Deep\n".as_slice(),
+    assert!(rt; is_laid(rt.alloc(), 31)?, "31 not within an if");
+    assert!(rt;
+        is_too_deep(rt.alloc(), 32, "token 45 Deep")?,
         "32 not within an if"
     );
     Ok(())
 }
 
+const LIMITS: [(&str, usize, &str); 2] = [
+    ("4,194,304 blanks", 4_194_304, "token 0 Syntax"),
+    ("4,194,305 blanks", 4_194_305, "TooLong"),
+];
+
 #[test]
 fn the_limits(rt: HostRuntime) -> Result<(), Fail> {
-    let texts = [
-        ("4,194,304 blanks", b' ', 4_194_304, "token 0 Syntax"),
-        ("4,194,305 blanks", b' ', 4_194_305, "TooLong"),
-    ];
-    for (label, byte, count, refusal) in texts {
-        let text = vec![in rt.alloc(); byte; count]?;
-        let (status, out) = reply_of(rt.alloc(), "format", text.as_slice())?;
-        let line = format!(in rt.alloc(); "refused network {refusal}\n")?;
-        assert_eq!(rt; status, 3, "{label}");
-        assert_eq!(rt; out.bytes(), line.as_bytes(), "{label}");
+    for (label, count, why) in &LIMITS {
+        let text = vec![in rt.alloc(); b' '; *count]?;
+        assert!(rt; is_refused(rt.alloc(), text.as_slice(), why)?, "{label}");
     }
     Ok(())
 }
 
 #[test]
 fn no_such_file(rt: HostRuntime) -> Result<(), Fail> {
-    let mut files = SureFiles::new(rt.alloc());
-    let mut out = SureSink::new(rt.alloc());
-    let status = call(rt.alloc(), "format", "none.amdl", &mut files, &mut out)?;
-    assert_eq!(rt; status, 4, "no such file");
-    assert_eq!(rt;
-        out.bytes(),
-        b"missing none.amdl\n".as_slice(),
-        "no such file"
-    );
+    assert!(rt; misses(rt.alloc(), "format")?, "no such file");
     Ok(())
 }

@@ -1,13 +1,13 @@
-//! Texts that are refused: their tokens, their productions, each with a token too few and with a wrong token, and their depth.
-use crate::texts::reply_of;
+//! Texts that are refused: their tokens, their productions, each with a token too few and with a wrong token, and their
+//! depth.
+use crate::texts::replies;
 use std::alloc::{AllocError, Global};
 use std::test::Fail;
 
-// Whether a text is refused with these words.
-fn is_refused(alloc: Global, text: &[u8], why: &str) -> Result<bool, Fail> {
+/// Whether a text is refused with these words.
+pub(crate) fn is_refused(alloc: Global, text: &[u8], why: &str) -> Result<bool, Fail> {
     let line = format!(in alloc; "refused network {why}\n")?;
-    let (status, out) = reply_of(alloc, "format", text)?;
-    Ok(status == 3 && out.bytes() == line.as_bytes())
+    replies(alloc, "format", text, 3, line.as_bytes())
 }
 
 // Two parts of a text.
@@ -36,8 +36,8 @@ const FILES: [(&str, u32); 7] = [
 
 #[test]
 fn faulty_files(rt: HostRuntime) -> Result<(), Fail> {
-    for (text, place) in FILES {
-        assert!(rt; is_no_tree(rt.alloc(), "", text, place)?, "{text}");
+    for (text, place) in &FILES {
+        assert!(rt; is_no_tree(rt.alloc(), "", text, *place)?, "{text}");
     }
     Ok(())
 }
@@ -81,9 +81,9 @@ const ITEMS: [(&str, u32); 34] = [
 
 #[test]
 fn faulty_items(rt: HostRuntime) -> Result<(), Fail> {
-    for (text, place) in ITEMS {
+    for (text, place) in &ITEMS {
         assert!(rt;
-            is_no_tree(rt.alloc(), "network x; ", text, place)?,
+            is_no_tree(rt.alloc(), "network x; ", text, *place)?,
             "{text}"
         );
     }
@@ -133,8 +133,8 @@ const STATEMENTS: [(&str, u32); 36] = [
 
 #[test]
 fn faulty_statements(rt: HostRuntime) -> Result<(), Fail> {
-    for (text, place) in STATEMENTS {
-        assert!(rt; is_no_tree(rt.alloc(), HANDLER, text, place)?, "{text}");
+    for (text, place) in &STATEMENTS {
+        assert!(rt; is_no_tree(rt.alloc(), HANDLER, text, *place)?, "{text}");
     }
     Ok(())
 }
@@ -163,8 +163,8 @@ const LEVELS: [(u32, &str, &str); 9] = [
 
 #[test]
 fn the_thirty_third_level(rt: HostRuntime) -> Result<(), Fail> {
-    for (ifs, text, why) in LEVELS {
-        let bytes = nested(rt.alloc(), ifs, text)?;
+    for (ifs, text, why) in &LEVELS {
+        let bytes = nested(rt.alloc(), *ifs, text)?;
         assert!(rt;
             is_refused(rt.alloc(), bytes.as_slice(), why)?,
             "{text} within {ifs}"
@@ -199,7 +199,7 @@ const BYTES: [(&[u8], &str); 18] = [
 
 #[test]
 fn faulty_bytes(rt: HostRuntime) -> Result<(), Fail> {
-    for (text, why) in BYTES {
+    for (text, why) in &BYTES {
         assert!(rt; is_refused(rt.alloc(), text, why)?, "{text:?}");
     }
     Ok(())
@@ -215,7 +215,7 @@ const BEHIND_A_MILLION: [(&str, &str); 5] = [
 
 #[test]
 fn behind_a_million_tokens(rt: HostRuntime) -> Result<(), Fail> {
-    for (more, why) in BEHIND_A_MILLION {
+    for (more, why) in &BEHIND_A_MILLION {
         let mut text = vec![in rt.alloc(); b';'; 1_000_000]?;
         text.extend_from_slice(more.as_bytes())?;
         assert!(rt; is_refused(rt.alloc(), text.as_slice(), why)?, "{more}");

@@ -72,3 +72,23 @@ pub(crate) fn reply_of(alloc: Global, verb: &str, text: &[u8]) -> Result<(u8, Su
 pub(crate) fn analysis_of(alloc: Global, text: &str) -> Result<(u8, SureSink), Fail> {
     reply_of(alloc, "analyse", text.as_bytes())
 }
+
+/// Whether the verb over one text has this status and puts out these bytes.
+pub(crate) fn replies(
+    alloc: Global,
+    verb: &str,
+    text: &[u8],
+    status: u8,
+    bytes: &[u8],
+) -> Result<bool, Fail> {
+    let (answer, out) = reply_of(alloc, verb, text)?;
+    Ok(answer == status && out.bytes() == bytes)
+}
+
+/// Whether the verb over a file that isn't there has status 4 and says so.
+pub(crate) fn misses(alloc: Global, verb: &str) -> Result<bool, Fail> {
+    let mut files = SureFiles::new(alloc);
+    let mut out = SureSink::new(alloc);
+    let status = call(alloc, verb, "none.amdl", &mut files, &mut out)?;
+    Ok(status == 4 && out.bytes() == b"missing none.amdl\n".as_slice())
+}
