@@ -1,0 +1,6 @@
+use Rattle.amdl_check.proofs.DeclaredLemmas.{nothing_added}
+use Rattle.amdl_check.proofs.declared.Declared.add.Goals as goal
+
+pub returns-in_default : goal.returns-in_default
+returns-in_default c before declares =
+    nothing_added c.args.item.now c.in_default.not-Kind c.in_default.not-Field before c.args.self.now declares
