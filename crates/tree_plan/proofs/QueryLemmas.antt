@@ -1,7 +1,8 @@
 -- The queries of handlers, gathered one after another.
 use Rattle.std.proofs.Common.{◌≡◌, ℕ, suc, ◌+◌, ◌-◌, ◌<◌, ◌≤◌, ◌&&◌, ◌||◌, Bool, true, false, not, cond, List, [], ◌∷◌}
-use Rattle.std.proofs.Common.{◌++◌, length, drop, get_or, map, Some, refl, sym, ap, subst, ◌∙◌, append_assoc}
-use Rattle.std.proofs.Common.{append-nil, arith}
+use Rattle.std.proofs.Common.{◌++◌, length, take, drop, get_or, map, Option, Some, None, refl, sym, ap, subst, ◌∙◌}
+use Rattle.std.proofs.Common.{append_assoc}
+use Rattle.std.proofs.Common.{append-nil, arith, nat_lt, length-append, inl, inr}
 use Rattle.std.specs.Cmp.Lexicographic.{pointwise}
 use Rattle.std.specs.List.{filter, flat_map, list_any, range_with_len}
 use Rattle.std.proofs.lemmas.List.{drop_all}
@@ -27,19 +28,22 @@ use Rattle.box_handlers.specs.Queries.{filled, filled_by, filled_term, asked_by,
 use Rattle.box_handlers.specs.Queries.{same_term, same_query, first_occurrences, queries_of}
 use Rattle.box_handlers.specs.Laws.{SameQueryIsEqual}
 use Rattle.box_handlers.proofs.BodyLemmas.{bodies_read, formulas_read}
-use Rattle.tree_plan.specs.Gathered.{with_query, with_queries}
+use Rattle.std.proofs.lemmas.Bool.{cases_Bool, cases_lt, lt-ltb, le-ltb}
+use Rattle.std.proofs.lemmas.List.{take_all, length-take-le}
+use Rattle.std.proofs.Math.Seq.{take-append_seam}
+use Rattle.tree_plan.specs.Gathered.{put_once, with_query, with_queries, asked_by_handlers}
 use Rattle.tree_plan.proofs.StepLemmas.{next_part}
 
 -- a part is gathered, and then those behind it
-gather_step : (now new front behind whole : List Query) → with_queries now (front ++ behind) ≡ whole →
-    new ≡ with_queries now front → with_queries new behind ≡ whole
-gather_step now new front behind whole before added =
-    ap (λ t. with_queries t behind) added ∙ sym (fold-append with_query now front behind) ∙ before
+gather_step : (most : Option ℕ) (now new front behind whole : List Query) → with_queries most now (front ++ behind) ≡ whole →
+    new ≡ with_queries most now front → with_queries most new behind ≡ whole
+gather_step most now new front behind whole before added =
+    ap (λ t. with_queries most t behind) added ∙ sym (fold-append (with_query most) now front behind) ∙ before
 
-pub gathered_twice : (start mid end front behind : List Query) → mid ≡ with_queries start front →
-    end ≡ with_queries mid behind → end ≡ with_queries start (front ++ behind)
-gathered_twice start mid end front behind one two =
-    two ∙ ap (λ t. with_queries t behind) one ∙ sym (fold-append with_query start front behind)
+pub gathered_twice : (most : Option ℕ) (start mid end front behind : List Query) → mid ≡ with_queries most start front →
+    end ≡ with_queries most mid behind → end ≡ with_queries most start (front ++ behind)
+gathered_twice most start mid end front behind one two =
+    two ∙ ap (λ t. with_queries most t behind) one ∙ sym (fold-append (with_query most) start front behind)
 
 -- what a statement asks stands in front of what those behind it ask
 layer_apart : (layer : Act-F (Body → Body) (Branches → Branches)) (rest : Body) (picked : List ℕ) →
@@ -61,22 +65,22 @@ asked_apart one rest picked =
     (map-Act Act Branch (Body → Body) (Branches → Branches) before_of_act before_of_branch
     (out-Act one)) rest picked)
 
-pub acts_more : (picked : List ℕ) (acts : List Act) (i : ℕ) (one : Act) (now new whole : List Query) → i < length acts →
+pub acts_more : (most : Option ℕ) (picked : List ℕ) (acts : List Act) (i : ℕ) (one : Act) (now new whole : List Query) → i < length acts →
     one ≡ get_or acts i one →
-    with_queries now (asked_by (body_of (drop i acts)) picked) ≡ whole →
-    new ≡ with_queries now (asked_by (body_of (one ∷ [])) picked) →
-    with_queries new (asked_by (body_of (drop (i + 1) acts)) picked) ≡ whole
-acts_more picked acts i one now new whole inside here before added =
+    with_queries most now (asked_by (body_of (drop i acts)) picked) ≡ whole →
+    new ≡ with_queries most now (asked_by (body_of (one ∷ [])) picked) →
+    with_queries most new (asked_by (body_of (drop (i + 1) acts)) picked) ≡ whole
+acts_more most picked acts i one now new whole inside here before added =
     let rest = body_of (drop (i + 1) acts) in
-    gather_step now new (asked_by (body_of (one ∷ [])) picked) (asked_by rest picked) whole
-    (ap (with_queries now)
+    gather_step most now new (asked_by (body_of (one ∷ [])) picked) (asked_by rest picked) whole
+    (ap (with_queries most now)
     (sym (ap (λ t. asked_by (body_of t) picked) (next_part acts i one inside here) ∙ asked_apart one rest picked))
     ∙ before) added
 
-pub acts_done : (picked : List ℕ) (acts : List Act) (i : ℕ) (now whole : List Query) → length acts ≤ i →
-    with_queries now (asked_by (body_of (drop i acts)) picked) ≡ whole → now ≡ whole
-acts_done picked acts i now whole all before =
-    ap (λ t. with_queries now (asked_by (body_of t) picked)) (sym (drop_all i acts all)) ∙ before
+pub acts_done : (most : Option ℕ) (picked : List ℕ) (acts : List Act) (i : ℕ) (now whole : List Query) → length acts ≤ i →
+    with_queries most now (asked_by (body_of (drop i acts)) picked) ≡ whole → now ≡ whole
+acts_done most picked acts i now whole all before =
+    ap (λ t. with_queries most now (asked_by (body_of t) picked)) (sym (drop_all i acts all)) ∙ before
 
 -- what each form of a statement asks
 module _ (picked : List ℕ) where
@@ -105,90 +109,90 @@ module _ (picked : List ℕ) where
 branch_asked : List ℕ → Branch → List Query
 branch_asked picked branch = asked_by_formula picked (formula_of branch.guard) ++ asked_by (body_of branch.body) picked
 
-pub branches_more : (picked : List ℕ) (branches : List Branch) (i : ℕ) (branch : Branch) (now new whole : List Query) →
+pub branches_more : (most : Option ℕ) (picked : List ℕ) (branches : List Branch) (i : ℕ) (branch : Branch) (now new whole : List Query) →
     i < length branches → branch ≡ get_or branches i branch →
-    with_queries now (asked_by_branches (branches_of (drop i branches)) picked) ≡ whole →
-    new ≡ with_queries now
+    with_queries most now (asked_by_branches (branches_of (drop i branches)) picked) ≡ whole →
+    new ≡ with_queries most now
     (asked_by_formula picked (formula_of branch.guard) ++ asked_by (body_of branch.body) picked) →
-    with_queries new (asked_by_branches (branches_of (drop (i + 1) branches)) picked) ≡ whole
-branches_more picked branches i branch now new whole inside here before added =
+    with_queries most new (asked_by_branches (branches_of (drop (i + 1) branches)) picked) ≡ whole
+branches_more most picked branches i branch now new whole inside here before added =
     let more = drop (i + 1) branches in
-    gather_step now new (asked_by_formula picked (formula_of branch.guard) ++ asked_by (body_of branch.body) picked)
+    gather_step most now new (asked_by_formula picked (formula_of branch.guard) ++ asked_by (body_of branch.body) picked)
     (asked_by_branches (branches_of more) picked) whole
-    (ap (with_queries now)
+    (ap (with_queries most now)
     (sym
     (ap (λ t. asked_by_branches (branches_of t) picked) (next_part branches i branch inside here)
     ∙ ap (λ b. asked_by_branches b picked) (bodies_read.branch branch more))) ∙ before) added
 
-pub branches_done : (picked : List ℕ) (branches : List Branch) (i : ℕ) (now whole : List Query) → length branches ≤ i →
-    with_queries now (asked_by_branches (branches_of (drop i branches)) picked) ≡ whole → now ≡ whole
-branches_done picked branches i now whole all before =
-    ap (λ t. with_queries now (asked_by_branches (branches_of t) picked)) (sym (drop_all i branches all)) ∙ before
+pub branches_done : (most : Option ℕ) (picked : List ℕ) (branches : List Branch) (i : ℕ) (now whole : List Query) → length branches ≤ i →
+    with_queries most now (asked_by_branches (branches_of (drop i branches)) picked) ≡ whole → now ≡ whole
+branches_done most picked branches i now whole all before =
+    ap (λ t. with_queries most now (asked_by_branches (branches_of t) picked)) (sym (drop_all i branches all)) ∙ before
 
 -- the values of a pick
-pub pick_more : (picked : List ℕ) (body : List Act) (values value : ℕ) (now new whole : List Query) → value < values →
-    with_queries now
+pub pick_more : (most : Option ℕ) (picked : List ℕ) (body : List Act) (values value : ℕ) (now new whole : List Query) → value < values →
+    with_queries most now
     (flat_map (λ value. asked_by (body_of body) (picked ++ value ∷ [])) (range_with_len value (values - value)))
     ≡ whole →
-    new ≡ with_queries now (asked_by (body_of body) (picked ++ value ∷ [])) →
-    with_queries new
+    new ≡ with_queries most now (asked_by (body_of body) (picked ++ value ∷ [])) →
+    with_queries most new
     (flat_map (λ value. asked_by (body_of body) (picked ++ value ∷ []))
     (range_with_len (value + 1) (values - (value + 1)))) ≡ whole
-pick_more picked body values value now new whole inside before added =
+pick_more most picked body values value now new whole inside before added =
     let more : values - value ≡ suc (values - (value + 1)) = omega (arith, inside) in
-    gather_step now new (asked_by (body_of body) (picked ++ value ∷ []))
+    gather_step most now new (asked_by (body_of body) (picked ++ value ∷ []))
     (flat_map (λ value. asked_by (body_of body) (picked ++ value ∷ []))
     (range_with_len (value + 1) (values - (value + 1)))) whole
-    (ap (λ n. with_queries now
+    (ap (λ n. with_queries most now
     (flat_map (λ value. asked_by (body_of body) (picked ++ value ∷ [])) (range_with_len value n))) (sym more)
     ∙ before) added
 
-pub pick_done : (picked : List ℕ) (body : List Act) (values value : ℕ) (now whole : List Query) → values ≤ value →
-    with_queries now
+pub pick_done : (most : Option ℕ) (picked : List ℕ) (body : List Act) (values value : ℕ) (now whole : List Query) → values ≤ value →
+    with_queries most now
     (flat_map (λ value. asked_by (body_of body) (picked ++ value ∷ [])) (range_with_len value (values - value)))
     ≡ whole → now ≡ whole
-pick_done picked body values value now whole all before =
+pick_done most picked body values value now whole all before =
     let none : values - value ≡ 0 = omega (arith, all) in
-    ap (λ n. with_queries now
+    ap (λ n. with_queries most now
     (flat_map (λ value. asked_by (body_of body) (picked ++ value ∷ [])) (range_with_len value n))) (sym none)
     ∙ before
 
 -- the lists of a test, and the probes of a list
-pub test_more : (picked : List ℕ) (lists : List (List Probe)) (i : ℕ) (probes : List Probe)
+pub test_more : (most : Option ℕ) (picked : List ℕ) (lists : List (List Probe)) (i : ℕ) (probes : List Probe)
     (now new whole : List Query) → i < length lists → probes ≡ get_or lists i probes →
-    with_queries now (asked_by_formula picked (any_of (map (map formula_of_probe) (drop i lists)))) ≡ whole →
-    new ≡ with_queries now (asked_by_formula picked (all_of (map formula_of_probe probes))) →
-    with_queries new (asked_by_formula picked (any_of (map (map formula_of_probe) (drop (i + 1) lists)))) ≡ whole
-test_more picked lists i probes now new whole inside here before added =
-    gather_step now new (asked_by_formula picked (all_of (map formula_of_probe probes)))
+    with_queries most now (asked_by_formula picked (any_of (map (map formula_of_probe) (drop i lists)))) ≡ whole →
+    new ≡ with_queries most now (asked_by_formula picked (all_of (map formula_of_probe probes))) →
+    with_queries most new (asked_by_formula picked (any_of (map (map formula_of_probe) (drop (i + 1) lists)))) ≡ whole
+test_more most picked lists i probes now new whole inside here before added =
+    gather_step most now new (asked_by_formula picked (all_of (map formula_of_probe probes)))
     (asked_by_formula picked (any_of (map (map formula_of_probe) (drop (i + 1) lists)))) whole
-    (ap (λ t. with_queries now (asked_by_formula picked (any_of (map (map formula_of_probe) t))))
+    (ap (λ t. with_queries most now (asked_by_formula picked (any_of (map (map formula_of_probe) t))))
     (sym (next_part lists i probes inside here)) ∙ before) added
 
-pub test_done : (picked : List ℕ) (test : Test) (i : ℕ) (now start : List Query) → length test.any ≤ i →
-    with_queries now (asked_by_formula picked (any_of (map (map formula_of_probe) (drop i test.any))))
-    ≡ with_queries start (asked_by_formula picked (any_of (map (map formula_of_probe) test.any))) →
-    now ≡ with_queries start (asked_by_formula picked (formula_of test))
-test_done picked test i now start all before =
-    ap (λ t. with_queries now (asked_by_formula picked (any_of (map (map formula_of_probe) t))))
+pub test_done : (most : Option ℕ) (picked : List ℕ) (test : Test) (i : ℕ) (now start : List Query) → length test.any ≤ i →
+    with_queries most now (asked_by_formula picked (any_of (map (map formula_of_probe) (drop i test.any))))
+    ≡ with_queries most start (asked_by_formula picked (any_of (map (map formula_of_probe) test.any))) →
+    now ≡ with_queries most start (asked_by_formula picked (formula_of test))
+test_done most picked test i now start all before =
+    ap (λ t. with_queries most now (asked_by_formula picked (any_of (map (map formula_of_probe) t))))
     (sym (drop_all i test.any all)) ∙ before
-    ∙ ap (λ t. with_queries start (asked_by_formula picked t)) (sym (formulas_read.test test))
+    ∙ ap (λ t. with_queries most start (asked_by_formula picked t)) (sym (formulas_read.test test))
 
-pub probes_more : (picked : List ℕ) (probes : List Probe) (i : ℕ) (one : Probe) (now new whole : List Query) →
+pub probes_more : (most : Option ℕ) (picked : List ℕ) (probes : List Probe) (i : ℕ) (one : Probe) (now new whole : List Query) →
     i < length probes → one ≡ get_or probes i one →
-    with_queries now (asked_by_formula picked (all_of (map formula_of_probe (drop i probes)))) ≡ whole →
-    new ≡ with_queries now (asked_by_formula picked (formula_of_probe one)) →
-    with_queries new (asked_by_formula picked (all_of (map formula_of_probe (drop (i + 1) probes)))) ≡ whole
-probes_more picked probes i one now new whole inside here before added =
-    gather_step now new (asked_by_formula picked (formula_of_probe one))
+    with_queries most now (asked_by_formula picked (all_of (map formula_of_probe (drop i probes)))) ≡ whole →
+    new ≡ with_queries most now (asked_by_formula picked (formula_of_probe one)) →
+    with_queries most new (asked_by_formula picked (all_of (map formula_of_probe (drop (i + 1) probes)))) ≡ whole
+probes_more most picked probes i one now new whole inside here before added =
+    gather_step most now new (asked_by_formula picked (formula_of_probe one))
     (asked_by_formula picked (all_of (map formula_of_probe (drop (i + 1) probes)))) whole
-    (ap (λ t. with_queries now (asked_by_formula picked (all_of (map formula_of_probe t))))
+    (ap (λ t. with_queries most now (asked_by_formula picked (all_of (map formula_of_probe t))))
     (sym (next_part probes i one inside here)) ∙ before) added
 
-pub probes_done : (picked : List ℕ) (probes : List Probe) (i : ℕ) (now whole : List Query) → length probes ≤ i →
-    with_queries now (asked_by_formula picked (all_of (map formula_of_probe (drop i probes)))) ≡ whole → now ≡ whole
-probes_done picked probes i now whole all before =
-    ap (λ t. with_queries now (asked_by_formula picked (all_of (map formula_of_probe t)))) (sym (drop_all i probes all))
+pub probes_done : (most : Option ℕ) (picked : List ℕ) (probes : List Probe) (i : ℕ) (now whole : List Query) → length probes ≤ i →
+    with_queries most now (asked_by_formula picked (all_of (map formula_of_probe (drop i probes)))) ≡ whole → now ≡ whole
+probes_done most picked probes i now whole all before =
+    ap (λ t. with_queries most now (asked_by_formula picked (all_of (map formula_of_probe t)))) (sym (drop_all i probes all))
     ∙ before
 
 -- what each form of a probe asks
@@ -322,19 +326,19 @@ not_either false true = refl
 not_either false false = refl
 
 gathered : SameQueryIsEqual → (now asked : List Query) →
-    with_queries now asked ≡ now ++ filter (λ other. not (among now other)) (first_occurrences asked)
+    with_queries None now asked ≡ now ++ filter (λ other. not (among now other)) (first_occurrences asked)
 gathered law now [] = sym (append-nil now)
 gathered law now (query ∷ asked) =
     by (among now query) refl (gathered law now asked) (gathered law (now ++ query ∷ []) asked)
   where
     by : (b : Bool) → among now query ≡ b →
-        with_queries now asked ≡ now ++ filter (λ other. not (among now other)) (first_occurrences asked) →
-        with_queries (now ++ query ∷ []) asked ≡ (now ++ query ∷ [])
+        with_queries None now asked ≡ now ++ filter (λ other. not (among now other)) (first_occurrences asked) →
+        with_queries None (now ++ query ∷ []) asked ≡ (now ++ query ∷ [])
         ++ filter (λ other. not (among (now ++ query ∷ []) other)) (first_occurrences asked) →
-        with_queries now (query ∷ asked) ≡ now
+        with_queries None now (query ∷ asked) ≡ now
         ++ filter (λ other. not (among now other)) (first_occurrences (query ∷ asked))
     by true e kept put =
-        ap (λ t. with_queries (cond t now (now ++ query ∷ [])) asked) e ∙ kept
+        ap (λ t. with_queries None (cond t now (now ++ query ∷ [])) asked) e ∙ kept
         ∙ ap (λ t. now ++ t)
         (sym (filter_within (λ other. not (among now other)) (λ other. not (same_query query other))
         (is_new law now query e) (first_occurrences asked))
@@ -345,7 +349,7 @@ gathered law now (query ∷ asked) =
         (filter (λ other. not (among now other))
         (filter (λ other. not (same_query query other)) (first_occurrences asked)))) (sym e))
     by false e kept put =
-        ap (λ t. with_queries (cond t now (now ++ query ∷ [])) asked) e ∙ put
+        ap (λ t. with_queries None (cond t now (now ++ query ∷ [])) asked) e ∙ put
         ∙ append_assoc now (query ∷ [])
         (filter (λ other. not (among (now ++ query ∷ []) other)) (first_occurrences asked))
         ∙ ap (λ t. now ++ query ∷ t)
@@ -361,22 +365,105 @@ gathered law now (query ∷ asked) =
         (filter (λ other. not (among now other))
         (filter (λ other. not (same_query query other)) (first_occurrences asked)))) (sym e)
 
-pub handlers_more : (handlers : List (List Act)) (i : ℕ) (acts : List Act) (now new whole : List Query) →
+pub handlers_more : (most : Option ℕ) (handlers : List (List Act)) (i : ℕ) (acts : List Act) (now new whole : List Query) →
     i < length handlers → acts ≡ get_or handlers i acts →
-    with_queries now (flat_map (λ acts. asked_by (body_of acts) []) (drop i handlers)) ≡ whole →
-    new ≡ with_queries now (asked_by (body_of acts) []) →
-    with_queries new (flat_map (λ acts. asked_by (body_of acts) []) (drop (i + 1) handlers)) ≡ whole
-handlers_more handlers i acts now new whole inside here before added =
-    gather_step now new (asked_by (body_of acts) [])
+    with_queries most now (flat_map (λ acts. asked_by (body_of acts) []) (drop i handlers)) ≡ whole →
+    new ≡ with_queries most now (asked_by (body_of acts) []) →
+    with_queries most new (flat_map (λ acts. asked_by (body_of acts) []) (drop (i + 1) handlers)) ≡ whole
+handlers_more most handlers i acts now new whole inside here before added =
+    gather_step most now new (asked_by (body_of acts) [])
     (flat_map (λ acts. asked_by (body_of acts) []) (drop (i + 1) handlers)) whole
-    (ap (λ t. with_queries now (flat_map (λ acts. asked_by (body_of acts) []) t))
+    (ap (λ t. with_queries most now (flat_map (λ acts. asked_by (body_of acts) []) t))
     (sym (next_part handlers i acts inside here)) ∙ before) added
 
-pub handlers_done : SameQueryIsEqual → (handlers : List (List Act)) (i : ℕ) (now : List Query) → length handlers ≤ i →
-    with_queries now (flat_map (λ acts. asked_by (body_of acts) []) (drop i handlers))
-    ≡ with_queries [] (flat_map (λ acts. asked_by (body_of acts) []) handlers) →
-    now ≡ queries_of handlers
-handlers_done law handlers i now all before =
-    ap (λ t. with_queries now (flat_map (λ acts. asked_by (body_of acts) []) t)) (sym (drop_all i handlers all))
-    ∙ before
-    ∙ gathered law [] (flat_map (λ acts. asked_by (body_of acts) []) handlers) ∙ filter_all _
+pub handlers_done : (most : Option ℕ) (handlers : List (List Act)) (i : ℕ) (now : List Query) → length handlers ≤ i →
+    with_queries most now (asked_by_handlers (drop i handlers)) ≡ with_queries most [] (asked_by_handlers handlers) →
+    now ≡ with_queries most [] (asked_by_handlers handlers)
+handlers_done most handlers i now all before =
+    ap (λ t. with_queries most now (asked_by_handlers t)) (sym (drop_all i handlers all)) ∙ before
+
+-- without a limit these are the queries
+without_limit : SameQueryIsEqual → (handlers : List (List Act)) →
+    with_queries None [] (asked_by_handlers handlers) ≡ queries_of handlers
+without_limit law handlers = gathered law [] (asked_by_handlers handlers) ∙ filter_all _
+
+pub all_asked : SameQueryIsEqual → (handlers : List (List Act)) (found : List Query) →
+    found ≡ with_queries None [] (asked_by_handlers handlers) → found ≡ queries_of handlers
+all_asked law handlers found is = is ∙ without_limit law handlers
+
+-- without a limit, what was gathered stays in front
+grows : (start asked : List Query) → (more : List Query) × (with_queries None start asked ≡ start ++ more)
+grows start [] = ([], sym (append-nil start))
+grows start (query ∷ asked) =
+    elim (cases_Bool (among start query)) [
+      | inl held ↦
+          let rest = grows start asked in
+          (rest.0, ap (λ b. with_queries None (cond b start (start ++ query ∷ [])) asked) held ∙ rest.1)
+      | inr new ↦
+          let rest = grows (start ++ query ∷ []) asked in (
+            query ∷ rest.0,
+            ap (λ b. with_queries None (cond b start (start ++ query ∷ [])) asked) new ∙ rest.1
+                ∙ append_assoc start (query ∷ []) rest.0,
+          )
+    ]
+
+-- where there is no room, nothing is added
+stays_full : (most : ℕ) (start asked : List Query) → nat_lt (length start) most ≡ false →
+    with_queries (Some most) start asked ≡ start
+stays_full most start [] full = refl
+stays_full most start (query ∷ asked) full =
+    ap (λ b. with_queries (Some most) (cond b (put_once start query) start) asked) full ∙ stays_full most start asked full
+
+-- with a limit these are the first of the others
+onward : (most : ℕ) (start asked : List Query) (query : Query) →
+    with_queries (Some most) start asked ≡ take most (with_queries None start asked) →
+    with_queries (Some most) (start ++ query ∷ []) asked ≡ take most (with_queries None (start ++ query ∷ []) asked) →
+    with_queries (Some most) (put_once start query) asked ≡ take most (with_queries None (put_once start query) asked)
+onward most start asked query kept put =
+    elim (cases_Bool (among start query)) [
+      | inl held ↦
+          ap (λ b. with_queries (Some most) (cond b start (start ++ query ∷ [])) asked) held ∙ kept
+          ∙ sym (ap (λ b. take most (with_queries None (cond b start (start ++ query ∷ [])) asked)) held)
+      | inr new ↦
+          ap (λ b. with_queries (Some most) (cond b start (start ++ query ∷ [])) asked) new ∙ put
+          ∙ sym (ap (λ b. take most (with_queries None (cond b start (start ++ query ∷ [])) asked)) new)
+    ]
+
+first_asked : (most : ℕ) (start asked : List Query) → length start ≤ most →
+    with_queries (Some most) start asked ≡ take most (with_queries None start asked)
+first_asked most start [] short = sym (take_all most start short)
+first_asked most start (query ∷ asked) short =
+    elim (cases_lt (length start) most) [
+      | inl less ↦
+          ap (λ b. with_queries (Some most) (cond b (put_once start query) start) asked)
+          (lt-ltb (length start) most less)
+          ∙ onward most start asked query (first_asked most start asked short)
+          (first_asked most (start ++ query ∷ []) asked (omega (arith, length-append start (query ∷ []), less)))
+      | inr more ↦
+          let full : length start ≡ most = omega (arith, short, more) in
+          let rest = grows start (query ∷ asked) in
+          stays_full most start (query ∷ asked) (le-ltb (length start) most more)
+          ∙ sym (ap (take most) rest.1 ∙ ap (λ n. take n (start ++ rest.0)) (sym full)
+          ∙ take-append_seam start rest.0)
+    ]
+
+-- as many are over a limit as are among one more than it allows
+longer : {A : Type 0} (limit : ℕ) (xs : List A) → nat_lt limit (length (take (limit + 1) xs)) ≡ nat_lt limit (length xs)
+longer limit xs =
+    elim (cases_lt limit (length xs)) [
+      | inl less ↦
+          let counted : length (take (limit + 1) xs) ≡ limit + 1 =
+          length-take-le (limit + 1) xs (omega (arith, less)) in
+          lt-ltb limit (length (take (limit + 1) xs)) (omega (arith, counted)) ∙ sym (lt-ltb limit (length xs) less)
+      | inr few ↦ ap (λ l. nat_lt limit (length l)) (take_all (limit + 1) xs (omega (arith, few)))
+    ]
+
+pub more_asked : SameQueryIsEqual → (handlers : List (List Act)) (limit : ℕ) (asked : List Query) (found : Bool) →
+    asked ≡ with_queries (Some (limit + 1)) [] (asked_by_handlers handlers) → found ≡ nat_lt limit (length asked) →
+    found ≡ nat_lt limit (length (queries_of handlers))
+more_asked law handlers limit asked found is told =
+    told
+    ∙ ap (λ l. nat_lt limit (length l))
+    (is ∙ first_asked (limit + 1) [] (asked_by_handlers handlers) (omega arith)
+    ∙ ap (take (limit + 1)) (without_limit law handlers))
+    ∙ longer limit (queries_of handlers)

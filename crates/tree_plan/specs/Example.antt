@@ -12,6 +12,8 @@ use Rattle.box_handlers.specs.declared.act.Query.{Query}
 use Rattle.box_handlers.specs.declared.act.Probe.TheVariants as probe
 use Rattle.box_handlers.specs.declared.act.Act.{Act}
 use Rattle.box_handlers.specs.declared.act.Act.TheVariants as act
+use Rattle.amdl_tree.specs.Example.{wire}
+use Rattle.net_plan.specs.Laws.{wire_plan}
 use Rattle.net_plan.specs.declared.plan.Plan.{Plan}
 use Rattle.net_plan.specs.declared.plan.ClassPlan.{ClassPlan}
 use Rattle.tree_plan.specs.Net.{net}
@@ -85,3 +87,7 @@ once_plan = record {
 
 abbrev pub NetOfOnce : Type 0
 NetOfOnce = net once_tree ≡ Some once_plan
+
+-- two hosts on a wire
+abbrev pub NetOfWire : Type 0
+NetOfWire = net wire ≡ Some wire_plan

@@ -6,7 +6,7 @@ use Rattle.std.specs.Ordering.{nat_cmp}
 use Rattle.std.specs.Cmp.Lexicographic.{slice_cmp}
 use Rattle.amdl_tree.specs.Items.{KindItem}
 use Rattle.net_plan.specs.declared.plan.KindPlan.{KindPlan}
-use Rattle.tree_plan.specs.Names.{value_number}
+use Rattle.tree_plan.specs.Names.{number_of, value_number}
 
 -- a type of a plan, as a text declares it
 abbrev pub kind_back : KindPlan → KindItem
@@ -24,3 +24,7 @@ number_at numbers name = get (slice_cmp nat_cmp) numbers name
 -- each name has the number of the value in the first type that has it
 pub record AreNumbersOf (kinds : List KindPlan) (numbers : BTreeMap (List ℕ) ℕ) : Type 0 where
   pub each : (name : List ℕ) → number_at numbers name ≡ value_number (kinds_back kinds) name
+
+-- each name has the number of its first place among the names
+pub record ArePlacesOf (names : List (List ℕ)) (numbers : BTreeMap (List ℕ) ℕ) : Type 0 where
+  pub each : (name : List ℕ) → number_at numbers name ≡ number_of names name

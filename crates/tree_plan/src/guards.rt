@@ -13,7 +13,7 @@ use std::alloc::Global;
 
 /// What a guard asks. None comes exactly where a name stands for nothing.
 ///
-/// For each name in it linear in the picks, the fields and the relations, and logarithmic in the values.
+/// For each name in it linear in the picks and the fields, and logarithmic in the relations and the values.
 #[tactic(auto, using(crate::proofs::StepLemmas::all_begun, crate::proofs::StepLemmas::all_more, crate::proofs::StepLemmas::all_lost, crate::proofs::StepLemmas::all_came, crate::proofs::FormLemmas::test_none, crate::proofs::FormLemmas::test_some))]
 #[cycle(guards)]
 pub(crate) fn test_of(

@@ -2,12 +2,13 @@ ghost use Rattle.std.specs.Prelude.{◌≡◌, [], ◌∷◌, ◌++◌, IfOk};
 ghost use Rattle.std.specs.Option.{option_map};
 ghost use Rattle.box_handlers.specs.declared.act.Act.TheVariants as act;
 ghost use Rattle.tree_plan.specs.Names.{joined, all_some, number_of, values_named};
-ghost use Rattle.tree_plan.specs.Handlers.{query_of, change_of, all_within, act_of, branch_of, body_for, handlers_of};
+ghost use Rattle.tree_plan.specs.Handlers.{query_of, change_of, all_within, act_of, acts_of, branch_of, body_for};
+ghost use Rattle.tree_plan.specs.Handlers.{handlers_of};
 ghost use Rattle.tree_plan.specs.Tables.{known_by};
 
 use crate::guards::test_of;
 use crate::known::Tables;
-use crate::names::{number_of, values_named};
+use crate::names::values_named;
 use crate::terms::{changes_of, query_of};
 use amdl_tree::{Alternative, Atom, Equal, Handler, List, Name, NoMemory, Stmt};
 use box_handlers::{Act, Branch};
@@ -16,8 +17,8 @@ use std::alloc::Global;
 /// A handler for each port, in the order of the ports, with numbers in place of names; a port that no handler names has
 /// the empty one. None comes exactly where a name stands for nothing.
 ///
-/// For each port linear in the handlers, and for each name in them linear in the picks around it, the fields, the
-/// relations, the types and the ports, and logarithmic in the values. A number that doesn't fit 32 bits is refused as
+/// For each port linear in the handlers, and for each name in them linear in the picks around it, the fields and the
+/// types, and logarithmic in the relations, the ports and the values. A number that doesn't fit 32 bits is refused as
 /// want of memory.
 #[tactic(auto, using(crate::proofs::StepLemmas::all_begun, crate::proofs::StepLemmas::all_more, crate::proofs::StepLemmas::all_lost, crate::proofs::StepLemmas::all_came))]
 pub fn handlers_of(
@@ -27,8 +28,9 @@ pub fn handlers_of(
 ) -> Result<Option<List<List<Act>>>, NoMemory>
     ensures { IfOk result (λ found. found ≡ handlers_of (known_by tables.now) handlers.now) }
 {
+    let ports = tables.ports.names();
     let mut numbered = List::new(alloc);
-    for port in tables.ports {
+    for port in ports {
         let body = body_for(handlers, *port);
         match acts_of(alloc, tables, &[], body)? {
             Some(acts) => numbered.push(acts)?,
@@ -36,6 +38,28 @@ pub fn handlers_of(
         }
     }
     Ok(Some(numbered))
+}
+
+/// The handlers in the order of the text, with numbers in place of names. None comes exactly where a name in a block
+/// stands for nothing; the port that a handler is for isn't looked up.
+///
+/// The time is that of `handlers_of`, but that ports and handlers aren't matched.
+#[tactic(auto, using(crate::proofs::StepLemmas::all_begun, crate::proofs::StepLemmas::all_more, crate::proofs::StepLemmas::all_lost, crate::proofs::StepLemmas::all_came))]
+pub fn bodies_of(
+    alloc: Global,
+    tables: &Tables,
+    handlers: &[Handler],
+) -> Result<Option<List<List<Act>>>, NoMemory>
+    ensures { IfOk result (λ found. found ≡ all_some (λ handler. acts_of (known_by tables.now) handler.body) handlers.now) }
+{
+    let mut bodies = List::new(alloc);
+    for handler in handlers {
+        match acts_of(alloc, tables, &[], handler.body.as_slice())? {
+            Some(acts) => bodies.push(acts)?,
+            None => return Ok(None),
+        }
+    }
+    Ok(Some(bodies))
 }
 
 // The block of the first handler that names the port, and the empty one where none does.
@@ -143,7 +167,7 @@ fn output_of(
         joined act.Output (number_of tables.now.ports.now port)
         (all_some (change_of (known_by tables.now) picks.now) changes.now)) }
 {
-    let Some(number) = number_of(tables.ports, port)? else {
+    let Some(number) = tables.ports.number(port) else {
         return Ok(None);
     };
     match changes_of(alloc, tables, picks, changes)? {

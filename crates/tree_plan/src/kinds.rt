@@ -73,9 +73,12 @@ fn numbers_of(alloc: Global, kinds: &[KindPlan]) -> Result<BTreeMap<Name, u32>, 
     Ok(numbers)
 }
 
-// Numbers the values whose names have no number yet.
+/// Numbers the names that have no number yet, each by its place. Linear in the names but for logarithms.
 #[tactic(auto, using(crate::proofs::NumberLemmas::value_more, crate::proofs::NumberLemmas::values_numbered))]
-fn number_values(values: &[Name], numbers: &mut BTreeMap<Name, u32>) -> Result<(), NoMemory>
+pub(crate) fn number_values(
+    values: &[Name],
+    numbers: &mut BTreeMap<Name, u32>,
+) -> Result<(), NoMemory>
     ensures { OnOk result ((name : List ℕ) →
         number_at numbers.new name ≡ option_or (number_at numbers.old name) (number_of values.now name)) }
 {

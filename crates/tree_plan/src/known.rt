@@ -1,4 +1,5 @@
 use crate::kinds::Kinds;
+use crate::numbered::Numbered;
 use amdl_tree::Name;
 
 /// What the handlers of a class may name: the types with their values, and the names of the fields, of the relations
@@ -7,6 +8,6 @@ use amdl_tree::Name;
 pub struct Tables<'a> {
     pub kinds: &'a Kinds,
     pub fields: &'a [Name],
-    pub relations: &'a [Name],
-    pub ports: &'a [Name],
+    pub relations: &'a Numbered,
+    pub ports: &'a Numbered,
 }

@@ -1,5 +1,5 @@
 //! Laws over the definitions, each the contract of a function that does nothing.
-ghost use Rattle.tree_plan.specs.Example.{NetOfOnce};
+ghost use Rattle.tree_plan.specs.Example.{NetOfOnce, NetOfWire};
 ghost use Rattle.tree_plan.specs.Marked.{NetOfMarked};
 ghost use Rattle.tree_plan.specs.Nested.{ClassOfNested};
 ghost use Rattle.tree_plan.specs.Office.{NetOfOffice};
@@ -10,6 +10,11 @@ use box_handlers::{bodies_are_read, formulas_are_read};
 /// What each statement, alternative, literal and guard comes to.
 pub fn statements_are_numbered()
     ensures { StatementsAreNumbered }
+{}
+
+/// The network of two hosts on a wire.
+pub fn net_of_wire()
+    ensures { NetOfWire }
 {}
 
 /// The network of a gate that opens once.

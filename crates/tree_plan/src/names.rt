@@ -42,7 +42,7 @@ pub fn kind_number(kinds: &[KindPlan], name: Name) -> Result<Option<u32>, NoMemo
 ///
 /// Linear in the types. A count that doesn't fit 32 bits is refused as want of memory.
 #[tactic(auto, using(crate::proofs::NameLemmas::values_none, crate::proofs::NameLemmas::values_lost, crate::proofs::NameLemmas::values_found))]
-pub(crate) fn values_named(kinds: &[KindPlan], name: Name) -> Result<Option<u32>, NoMemory>
+pub fn values_named(kinds: &[KindPlan], name: Name) -> Result<Option<u32>, NoMemory>
     ensures { IfOk result (λ found. found ≡ values_named (kinds_back kinds.now) name) }
 {
     let Some(place) = kind_place(kinds, name) else {

@@ -47,7 +47,7 @@ fn terms_of(
 
 /// A relation with a term for each argument. None comes exactly where a name stands for nothing.
 ///
-/// Linear in the relations, and for each argument in the picks and the fields, and logarithmic in the values.
+/// Logarithmic in the relations, and for each argument linear in the picks and the fields and logarithmic in the values.
 pub(crate) fn query_of(
     alloc: Global,
     tables: &Tables,
@@ -56,7 +56,7 @@ pub(crate) fn query_of(
 ) -> Result<Option<Query>, NoMemory>
     ensures { IfOk result (λ found. found ≡ query_of (known_by tables.now) picks.now atom.now) }
 {
-    let Some(relation) = number_of(tables.relations, atom.relation)? else {
+    let Some(relation) = tables.relations.number(atom.relation) else {
         return Ok(None);
     };
     match terms_of(alloc, tables, picks, atom.args.as_slice())? {
