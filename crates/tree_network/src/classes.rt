@@ -9,7 +9,7 @@ use crate::names::copied;
 use amdl_tree::{Class, List, Name, NoMemory, Relation};
 use net_plan::{ClassPlan, KindPlan, RelationPlan};
 use std::alloc::Global;
-use tree_plan::{Kinds, Tables, handlers_of, kind_number, queries_of};
+use tree_plan::{Kinds, Numbered, Tables, handlers_of, kind_number, queries_of};
 
 /// The classes with numbers in place of names. None comes exactly where a name stands for nothing.
 ///
@@ -35,7 +35,8 @@ pub(crate) fn classes_of(
     Ok(Some(plans))
 }
 
-fn class_of(
+/// A class with numbers in place of names. None comes exactly where a name stands for nothing.
+pub(crate) fn class_of(
     alloc: Global,
     kinds: &Kinds,
     fields: &[Name],
@@ -43,12 +44,13 @@ fn class_of(
 ) -> Result<Option<ClassPlan>, NoMemory>
     ensures { IfOk result (λ found. found ≡ class_by (kinds_back kinds.now) fields.now class.now) }
 {
-    let relations = relation_names(alloc, class)?;
+    let relations = Numbered::new(alloc, relation_names(alloc, class)?)?;
+    let ports = Numbered::new(alloc, copied(alloc, class.ports.as_slice())?)?;
     let tables = Tables {
         kinds,
         fields,
-        relations: relations.as_slice(),
-        ports: class.ports.as_slice(),
+        relations: &relations,
+        ports: &ports,
     };
     class_with(alloc, &tables, class)
 }

@@ -1,12 +1,13 @@
 ghost use Rattle.std.specs.Prelude.{◌≡◌, IfOk};
 ghost use Rattle.std.specs.List.{position_from};
+ghost use Rattle.amdl_tree.specs.Items.{field_items};
 ghost use Rattle.tree_plan.specs.Names.{same_name, number_of, all_some};
 ghost use Rattle.tree_plan.specs.Net.{field_of, field_names, value_of_field, equation_of};
 ghost use Rattle.tree_plan.specs.Tables.{kinds_back};
 ghost use Rattle.tree_network.specs.Reads.{field_back, fields_back};
 
-use crate::items::FieldItem;
-use amdl_tree::{Equal, List, Name, NoMemory};
+use crate::items::{FieldItem, field_items};
+use amdl_tree::{Equal, Item, List, Name, NoMemory};
 use net_plan::{FieldPlan, KindPlan};
 use std::alloc::Global;
 use tree_plan::{kind_number, value_in};
@@ -53,6 +54,14 @@ pub(crate) fn names_of(alloc: Global, fields: &[FieldItem]) -> Result<List<Name>
         names.push(field.name)?;
     }
     Ok(names)
+}
+
+/// The names of the fields of the items in their order. Linear in the items.
+pub fn field_names(alloc: Global, items: &[Item]) -> Result<List<Name>, NoMemory>
+    ensures { IfOk result (λ names. names ≡ field_names (field_items items.now)) }
+{
+    let fields = field_items(alloc, items)?;
+    names_of(alloc, fields.as_slice())
 }
 
 /// An equation of a pattern: the number of its field, and the number of its value among those of the field's type.

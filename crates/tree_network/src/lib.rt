@@ -1,4 +1,4 @@
-//! The code that answers the network that the items of a text spell.
+//! The code that answers the network that the items of a text spell, and the tables of what they declare.
 #![tactic(auto)]
 
 mod boxes;
@@ -11,4 +11,5 @@ mod nodes;
 mod patterns;
 mod plan;
 
-pub use plan::plan_of;
+pub use fields::field_names;
+pub use plan::{class_plan, kind_table, plan_of};

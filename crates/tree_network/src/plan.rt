@@ -4,13 +4,13 @@ ghost use Rattle.amdl_tree.specs.Items.{kind_items, sends_items, forbid_items};
 ghost use Rattle.net_plan.specs.Ends.{places_of};
 ghost use Rattle.tree_plan.specs.Names.{joined, all_some};
 ghost use Rattle.tree_plan.specs.Net.{field_of, field_names, class_by, host_of, box_of, classes_of, links_of};
-ghost use Rattle.tree_plan.specs.Net.{nodes_plan, net};
+ghost use Rattle.tree_plan.specs.Net.{nodes_plan, net, class_of};
 ghost use Rattle.tree_plan.specs.Tables.{kinds_back};
 ghost use Rattle.tree_network.specs.Reads.{fields_back, classes_back, boxes_back, AreNodesOf};
 
 use crate::boxes::boxes_of;
-use crate::classes::classes_of;
-use crate::fields::{fields_of, names_of};
+use crate::classes::{class_of, classes_of};
+use crate::fields::{field_names, fields_of, names_of};
 use crate::items::{
     FieldItem, box_items, class_items, field_items, forbid_items, host_items, kinds_of, link_items,
     sends_items,
@@ -74,7 +74,7 @@ fn unlinked(alloc: Global, tree: &Tree, nodes: &Nodes<'_>) -> Result<Option<Plan
     ensures { IfOk result (λ plan. plan ≡ nodes_plan tree.now (classes_of tree.now.items)) }
 {
     let items = tree.items.as_slice();
-    let kinds = kinds_read(alloc, items)?;
+    let kinds = kind_table(alloc, items)?;
     let read = field_items(alloc, items)?;
     let Some((fields, classes)) = seen_of(alloc, &kinds, read.as_slice(), nodes.classes)? else {
         return Ok(None);
@@ -93,12 +93,27 @@ fn unlinked(alloc: Global, tree: &Tree, nodes: &Nodes<'_>) -> Result<Option<Plan
     }))
 }
 
-// The types with the table of their values.
-fn kinds_read(alloc: Global, items: &[Item]) -> Result<Kinds, NoMemory>
+/// The types of the items with the table of their values. Linear in the items and the values, but for logarithms.
+pub fn kind_table(alloc: Global, items: &[Item]) -> Result<Kinds, NoMemory>
     ensures { IfOk result (λ kinds. kinds_back kinds ≡ kind_items items.now) }
 {
     let plans = kinds_of(alloc, items)?;
     Kinds::new(alloc, plans)
+}
+
+/// A class by the types and the fields of these items. None comes exactly where a name in it stands for nothing.
+///
+/// The time is that of the table of the types, and of the numbered handlers and their queries.
+pub fn class_plan(
+    alloc: Global,
+    items: &[Item],
+    class: &Class,
+) -> Result<Option<ClassPlan>, NoMemory>
+    ensures { IfOk result (λ found. found ≡ class_of items.now class.now) }
+{
+    let kinds = kind_table(alloc, items)?;
+    let fields = field_names(alloc, items)?;
+    class_of(alloc, &kinds, fields.as_slice(), class)
 }
 
 // The fields and the classes.
