@@ -1,9 +1,10 @@
 -- Each list of items is well formed, or refused at one place by one rule.
 use Rattle.std.proofs.Common.{◌≡◌, ◌≢◌, ℕ, suc, Bool, true, false, List, [], ◌∷◌, ◌++◌, length, All, refl, sym, ap}
-use Rattle.std.proofs.Common.{subst, ◌∙◌, ◌⊎◌, append_assoc, append-nil, arith}
+use Rattle.std.proofs.Common.{subst, ◌∙◌, ◌⊎◌, append_assoc, append-nil, arith, Some, None, cond, find}
 use mathlib.Core.Logic.{inl, inr}
 use Rattle.std.proofs.lemmas.Bool.{cases_Bool}
 use Rattle.std.proofs.lemmas.List.Elements.{All-nil, All-push}
+use Rattle.std.proofs.lemmas.Option.{none-some, same_Some}
 use Rattle.amdl_tree.specs.declared.tree.Item.{Item}
 use Rattle.amdl_tree.specs.Items.{FieldItem, field_items}
 use Rattle.tree_rules.specs.declared.rule.Rule.{Rule}
@@ -31,6 +32,8 @@ use Rattle.tree_rules.specs.Checked.{
   IsWellFormed,
   item_rules,
   KeepsAll,
+  KeepsEach,
+  first_rule,
   IsFirstRule,
   IsFaultAt,
   LacksField,
@@ -188,12 +191,8 @@ keeps_all before item none SameItem = none 13 NameTaken (omega arith)
 keeps_all before item none TooManyCells = none 14 NameTaken (omega arith)
 keeps_all before item none NoField = refl
 
--- no rule holds of any of the items
-abbrev AllKeep : List Item → Type 0
-AllKeep items =
-    (front : List Item) (other : Item) (back : List Item) → items ≡ front ++ other ∷ back → KeepsAll front other
-
-one_more : (before : List Item) (item : Item) → AllKeep before → KeepsAll before item → AllKeep (before ++ item ∷ [])
+pub one_more : (before : List Item) (item : Item) → KeepsEach before → KeepsAll before item →
+    KeepsEach (before ++ item ∷ [])
 one_more before item all keeps front other back e =
     elim (parting_last before item front other back e) [
       | inl here ↦ subst (λ (m : Item). KeepsAll front m) here.members
@@ -201,15 +200,15 @@ one_more before item all keeps front other back e =
       | inr within ↦ all front other within.0 within.1
     ]
 
-nothing_kept : AllKeep []
+pub nothing_kept : KeepsEach []
 nothing_kept [] other back e = absurd (cc)
 nothing_kept (x ∷ front) other back e = absurd (cc)
 
 abbrev Scanned : List Item → Type 0
-Scanned items = AllKeep items ⊎ ((number : ℕ) × (rule : Rule) × IsFaultAt items number rule)
+Scanned items = KeepsEach items ⊎ ((number : ℕ) × (rule : Rule) × IsFaultAt items number rule)
 
-scanned_from : (items before after : List Item) → items ≡ before ++ after → AllKeep before → Scanned items
-scanned_from items before [] e all = inl (subst AllKeep (sym (e ∙ append-nil before)) all)
+scanned_from : (items before after : List Item) → items ≡ before ++ after → KeepsEach before → Scanned items
+scanned_from items before [] e all = inl (subst KeepsEach (sym (e ∙ append-nil before)) all)
 scanned_from items before (item ∷ after) e all =
     elim (judged before item) [
       | inl none ↦ scanned_from items (before ++ item ∷ []) after (e ∙ sym (append_assoc before (item ∷ []) after))
@@ -229,7 +228,7 @@ scanned_from items before (item ∷ after) e all =
       )
     ]
 
-formed_by : (items : List Item) → AllKeep items → field_items items ≢ [] → IsWellFormed items
+pub formed_by : (items : List Item) → KeepsEach items → field_items items ≢ [] → IsWellFormed items
 formed_by items all some = record {
   names_free = λ b i a e. all b i a e NameTaken;
   names_known = λ b i a e. all b i a e UnknownName;
@@ -263,3 +262,43 @@ some_answer items =
       ]
       | inr found ↦ inr (found.0, found.1, inl found.2)
     ]
+
+-- the search for the first rule, where none of the earlier ones holds
+found_from : (before : List Item) (item : Item) (earlier later : List Rule) → item_rules ≡ earlier ++ later →
+    NoneOf before item earlier → (rule : Rule) → find (λ r. breaks r before item) later ≡ Some rule →
+    IsFirstRule before item rule
+found_from before item earlier [] order none rule e = absurd (none-some rule e)
+found_from before item earlier (next ∷ later) order none rule e =
+    let rest = find (λ r. breaks r before item) later in
+    elim (cases_Bool (breaks next before item)) [
+      | inl positive ↦ subst (IsFirstRule before item)
+          (same_Some next rule (sym (ap (λ b. cond b (Some next) rest) positive) ∙ e))
+          (record { earlier = earlier; later = later; in_order = order; holds = positive; kept = none })
+      | inr negative ↦ found_from before item (earlier ++ next ∷ []) later
+          (order ∙ sym (append_assoc earlier (next ∷ []) later))
+          (All-push (λ r. breaks r before item ≡ false) earlier next none negative) rule
+          (sym (ap (λ b. cond b (Some next) rest) negative) ∙ e)
+    ]
+
+pub rule_found : (before : List Item) (item : Item) (rule : Rule) → first_rule before item ≡ Some rule →
+    IsFirstRule before item rule
+rule_found before item rule e =
+    found_from before item [] item_rules refl (All-nil (λ r. breaks r before item ≡ false)) rule e
+
+none_from : (before : List Item) (item : Item) (earlier later : List Rule) → item_rules ≡ earlier ++ later →
+    NoneOf before item earlier → find (λ r. breaks r before item) later ≡ None → KeepsAll before item
+none_from before item earlier [] order none e =
+    keeps_all before item (subst (NoneOf before item) (sym (order ∙ append-nil earlier)) none)
+none_from before item earlier (next ∷ later) order none e =
+    let rest = find (λ r. breaks r before item) later in
+    elim (cases_Bool (breaks next before item)) [
+      | inl positive ↦ absurd (none-some next (sym e ∙ ap (λ b. cond b (Some next) rest) positive))
+      | inr negative ↦ none_from before item (earlier ++ next ∷ []) later
+          (order ∙ sym (append_assoc earlier (next ∷ []) later))
+          (All-push (λ r. breaks r before item ≡ false) earlier next none negative)
+          (sym (ap (λ b. cond b (Some next) rest) negative) ∙ e)
+    ]
+
+pub none_found : (before : List Item) (item : Item) → first_rule before item ≡ None → KeepsAll before item
+none_found before item e =
+    none_from before item [] item_rules refl (All-nil (λ r. breaks r before item ≡ false)) e

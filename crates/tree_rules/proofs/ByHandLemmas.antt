@@ -13,6 +13,7 @@ use Rattle.tree_rules.specs.ByHand.{
   HandlersByHand,
   LinksByHand,
   CellsByHand,
+  OrderByHand,
   RulesByHand,
 }
 use Rattle.tree_rules.proofs.UseLemmas.{literal_uses, guard_uses_are, statement_uses, alternative_uses}
@@ -148,6 +149,61 @@ module _ (numbered : StatementsAreNumbered) (bodies : BodiesAreRead) (formulas :
         ) refl;
   }
 
+  order_by_hand : OrderByHand
+  order_by_hand = record {
+    name_unknown = refl;
+    unknown_count = refl;
+    count_header = refl;
+    header_late = refl;
+    arity_kind = refl;
+    unknown_itself = refl;
+    itself_taken = refl;
+    kind_same = refl;
+    count_cells = refl;
+    twice_paths =
+        simp (
+          statement_uses,
+          alternative_uses,
+          guard_uses_are,
+          literal_uses,
+          numbered.statement,
+          numbered.alternative,
+          numbered.guard,
+          numbered.literal,
+          outs-Pick,
+          outs-Choose,
+          outs-Has,
+          outs-True,
+          bodies.pick,
+          bodies.choose,
+          bodies.branch,
+          formulas.test,
+          formulas.has,
+          formulas.always,
+        ) refl;
+    paths_queries =
+        simp (
+          statement_uses,
+          alternative_uses,
+          guard_uses_are,
+          literal_uses,
+          numbered.statement,
+          numbered.alternative,
+          numbered.guard,
+          numbered.literal,
+          outs-Pick,
+          outs-Choose,
+          outs-Has,
+          outs-True,
+          bodies.pick,
+          bodies.choose,
+          bodies.branch,
+          formulas.test,
+          formulas.has,
+          formulas.always,
+        ) refl;
+  }
+
   pub rules_by_hand : RulesByHand
   rules_by_hand = record {
     names = names_by_hand;
@@ -158,4 +214,5 @@ module _ (numbered : StatementsAreNumbered) (bodies : BodiesAreRead) (formulas :
     handlers = handlers_by_hand;
     links = links_by_hand;
     cells = cells_by_hand;
+    order = order_by_hand;
   }

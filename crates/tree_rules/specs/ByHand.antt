@@ -1,5 +1,5 @@
 -- The rules by hand: for each rule an item that it holds of, most with one beside it that it doesn't hold of.
-use Rattle.std.specs.Prelude.{◌≡◌, ℕ, true, false, List, [], ◌∷◌, ◌++◌, codes, replicate}
+use Rattle.std.specs.Prelude.{◌≡◌, ℕ, true, false, List, [], ◌∷◌, ◌++◌, Some, codes, replicate}
 use Rattle.amdl_tree.specs.declared.guard.Lit.{Lit}
 use Rattle.amdl_tree.specs.declared.guard.Lit.TheVariants.{Has, Same, True}
 use Rattle.amdl_tree.specs.declared.statement.Stmt.{Stmt}
@@ -35,7 +35,7 @@ use Rattle.tree_rules.specs.declared.rule.Rule.TheVariants.{
   SameItem,
   TooManyCells,
 }
-use Rattle.tree_rules.specs.Checked.{breaks}
+use Rattle.tree_rules.specs.Checked.{breaks, first_rule}
 
 -- two types, and a field of each
 abbrev pub two_fields : List Item
@@ -184,6 +184,35 @@ pub record CellsByHand : Type 0 where
   pub ends_more : breaks TooManyCells (bytes 2 ++ replicate 64 (Host (codes "h"))) (Host (codes "k")) ≡ true
   pub fieldless : breaks TooManyCells (replicate 255 (Host (codes "h"))) (Host (codes "k")) ≡ false
 
+-- a handler with 26,624 paths, of which 13 queries are asked
+abbrev pub many_paths : List Stmt
+many_paths = Pick (codes "p") (codes "A") (asks (has_r (codes "p" ∷ [])) ∷ []) ∷ replicate 10 (asks True)
+
+-- the class with two handlers of this body for one port
+abbrev pub class_twice : List Stmt → Class
+class_twice body = record (class_with body) {
+  handlers = record { port = codes "i"; body = body } ∷ record { port = codes "i"; body = body } ∷ [];
+}
+
+-- of two rules that hold of one item the earlier one
+pub record OrderByHand : Type 0 where
+  pub name_unknown : first_rule two_fields (Field (codes "f") (codes "C")) ≡ Some NameTaken
+  pub unknown_count : first_rule (bytes 8) (Field (codes "q") (codes "C")) ≡ Some UnknownName
+  pub count_header : first_rule (bytes 8) (Field (codes "q") (codes "T")) ≡ Some TooMany
+  pub header_late : first_rule (bytes 2 ++ Host (codes "h") ∷ []) (Field (codes "q") (codes "T")) ≡ Some HeaderTooLarge
+  pub arity_kind :
+      first_rule some_nodes
+      (Instance (codes "m") (codes "c") (record { relation = codes "r"; args = codes "x" ∷ codes "a" ∷ [] } ∷ []))
+      ≡ Some Arity
+  pub unknown_itself : first_rule some_nodes (Link (AtHost (codes "z")) (AtHost (codes "z"))) ≡ Some UnknownName
+  pub itself_taken : first_rule linked (Link (AtHost (codes "h")) (AtHost (codes "h"))) ≡ Some EndToItself
+  pub kind_same :
+      first_rule (some_nodes ++ Sends (codes "h") (equal (codes "g") (codes "a") ∷ []) ∷ [])
+      (Sends (codes "h") (equal (codes "g") (codes "a") ∷ [])) ≡ Some KindMismatch
+  pub count_cells : first_rule (bytes 2 ++ replicate 256 (Host (codes "h"))) (Host (codes "k")) ≡ Some TooMany
+  pub twice_paths : first_rule (values 13) (OfClass (class_twice many_paths)) ≡ Some HandlerTwice
+  pub paths_queries : first_rule (values 13) (OfClass (class_with many_paths)) ≡ Some TooManyPaths
+
 pub record RulesByHand : Type 0 where
   pub names : NamesByHand
   pub unknown : UnknownByHand
@@ -193,3 +222,4 @@ pub record RulesByHand : Type 0 where
   pub handlers : HandlersByHand
   pub links : LinksByHand
   pub cells : CellsByHand
+  pub order : OrderByHand

@@ -1,6 +1,6 @@
 -- Well-formed items, and the first item and rule of those that aren't.
-use Rattle.std.specs.Prelude.{◌≡◌, ◌≢◌, ℕ, Bool, true, false, ◌⊎◌, List, [], ◌∷◌, ◌++◌, length}
-use Rattle.std.specs.List.{All}
+use Rattle.std.specs.Prelude.{◌≡◌, ◌≢◌, ℕ, Bool, true, false, ◌⊎◌, List, [], ◌∷◌, ◌++◌, Option, length}
+use Rattle.std.specs.List.{All, find}
 use Rattle.amdl_tree.specs.declared.tree.Item.{Item}
 use Rattle.amdl_tree.specs.Items.{field_items}
 use Rattle.tree_rules.specs.declared.rule.Rule.{Rule}
@@ -89,9 +89,18 @@ item_rules =
     NameTaken ∷ UnknownName ∷ TooMany ∷ HeaderTooLarge ∷ FieldLate ∷ Arity ∷ KindMismatch ∷ RelationTooLarge
     ∷ HandlerTwice ∷ TooManyPaths ∷ TooManyQueries ∷ EndToItself ∷ EndTaken ∷ SameItem ∷ TooManyCells ∷ []
 
+-- the first rule that holds of the item behind these
+abbrev pub first_rule : List Item → Item → Option Rule
+first_rule before item = find (λ rule. breaks rule before item) item_rules
+
 -- no rule holds of the item behind these
 abbrev pub KeepsAll : List Item → Item → Type 0
 KeepsAll before item = (rule : Rule) → breaks rule before item ≡ false
+
+-- no rule holds of any of the items with the items before it
+abbrev pub KeepsEach : List Item → Type 0
+KeepsEach items =
+    (front : List Item) (other : Item) (back : List Item) → items ≡ front ++ other ∷ back → KeepsAll front other
 
 -- the rule holds of the item behind these, and no earlier rule does
 pub record IsFirstRule (before : List Item) (item : Item) (rule : Rule) : Type 0 where
@@ -108,14 +117,12 @@ pub record IsFaultAt (items : List Item) (number : ℕ) (rule : Rule) : Type 0 w
   pub after : List Item
   pub stands : items ≡ before ++ item ∷ after
   pub counted : number ≡ length before
-  pub first : (front : List Item) (other : Item) (back : List Item) → before ≡ front ++ other ∷ back →
-      KeepsAll front other
+  pub first : KeepsEach before
   pub rule_first : IsFirstRule before item rule
 
 -- no rule holds of any item, and none is a field; then the place is behind them all
 pub record LacksField (items : List Item) (number : ℕ) (rule : Rule) : Type 0 where
-  pub first : (front : List Item) (other : Item) (back : List Item) → items ≡ front ++ other ∷ back →
-      KeepsAll front other
+  pub first : KeepsEach items
   pub none : field_items items ≡ []
   pub counted : number ≡ length items
   pub rule_is : rule ≡ NoField

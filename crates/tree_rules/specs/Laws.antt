@@ -1,5 +1,5 @@
 -- Laws on the rules.
-use Rattle.std.specs.Prelude.{◌≡◌, ℕ, ◌⊎◌, List}
+use Rattle.std.specs.Prelude.{◌≡◌, ◌≢◌, ℕ, ◌⊎◌, List, [], ◌∷◌, ◌++◌, Some, None}
 use Rattle.amdl_tree.specs.declared.guard.Guard.{Guard}
 use Rattle.amdl_tree.specs.declared.guard.Lit.{Lit}
 use Rattle.amdl_tree.specs.declared.guard.Lit.TheViews.{out-Lit}
@@ -7,6 +7,7 @@ use Rattle.amdl_tree.specs.declared.statement.Stmt.{Stmt}
 use Rattle.amdl_tree.specs.declared.statement.Stmt.TheViews.{out-Stmt}
 use Rattle.amdl_tree.specs.declared.statement.Alternative.{Alternative}
 use Rattle.amdl_tree.specs.declared.tree.Item.{Item}
+use Rattle.amdl_tree.specs.Items.{field_items}
 use Rattle.tree_rules.specs.declared.rule.Rule.{Rule}
 use Rattle.tree_rules.specs.Uses.{
   Opened,
@@ -19,7 +20,14 @@ use Rattle.tree_rules.specs.Uses.{
   uses_of_statement,
   uses_of_alternative,
 }
-use Rattle.tree_rules.specs.Checked.{IsWellFormed, IsRefusedAt}
+use Rattle.tree_rules.specs.Checked.{
+  IsWellFormed,
+  IsRefusedAt,
+  IsFirstRule,
+  KeepsAll,
+  KeepsEach,
+  first_rule,
+}
 
 -- items are well formed, or else they are refused at some place by some rule
 abbrev pub IsCheckedSomehow : List Item → Type 0
@@ -44,3 +52,13 @@ pub record UsesAreRead : Type 0 where
       uses_of_statement stmt opened ≡ stmt_uses uses_of_statement uses_of_alternative (out-Stmt stmt) opened
   pub alternative : (alternative : Alternative) (opened : List Opened) →
       uses_of_alternative alternative opened ≡ branch_uses uses_of_statement alternative.guard alternative.body opened
+
+-- how a search through the items in their order comes to the answer
+pub record RulesAreFound : Type 0 where
+  pub found : (before : List Item) (item : Item) (rule : Rule) → first_rule before item ≡ Some rule →
+      IsFirstRule before item rule
+  pub none : (before : List Item) (item : Item) → first_rule before item ≡ None → KeepsAll before item
+  pub begun : KeepsEach []
+  pub more : (before : List Item) (item : Item) → KeepsEach before → KeepsAll before item →
+      KeepsEach (before ++ item ∷ [])
+  pub formed : (items : List Item) → KeepsEach items → field_items items ≢ [] → IsWellFormed items
