@@ -236,7 +236,7 @@ module _ (before : List Item) (item : Item) (no_field : field_items (item ∷ []
       ap (λ known. acts_of known body) (known_more class)
       ∙ acts_front (known_of before class) (kind_items (item ∷ [])) fits.0 body acts good came
 
-  class_more : (class : Class) (found : ClassPlan) → IsBuiltClass class → class_of before class ≡ Some found →
+  pub class_more : (class : Class) (found : ClassPlan) → IsBuiltClass class → class_of before class ≡ Some found →
       class_of more class ≡ Some found
   class_more class found fits came =
       joined_some (λ relations handlers. record {
@@ -267,7 +267,7 @@ module _ (before : List Item) (item : Item) (no_field : field_items (item ∷ []
       }) (relations_more i) (handlers_more i))
       ∙ ap Some is)
 
-  box_more : All IsBuiltItem more → (box : BoxItem) (count : ℕ) → cells_of_box before box ≡ Some count →
+  pub box_more : All IsBuiltItem more → (box : BoxItem) (count : ℕ) → cells_of_box before box ≡ Some count →
       cells_of_box more box ≡ Some count
   box_more built box count came =
       option_map_some box_cells (option_and_then (class_of before) (class_named before box.class)) count came
@@ -309,7 +309,7 @@ abbrev HasFewCells : List Item → Type 0
 HasFewCells items = (count : ℕ) → cells_of items ≡ Some count → count ≤ 4194304
 
 -- before a field there is neither a host nor a box
-no_nodes : (before : List Item) → list_any follows_fields before ≡ false →
+pub no_nodes : (before : List Item) → list_any follows_fields before ≡ false →
     (host_items before ≡ []) × (box_items before ≡ [])
 no_nodes [] early = (refl, refl)
 no_nodes (Kind name values ∷ before) early = no_nodes before early

@@ -1,6 +1,7 @@
 pub mod Boxes
 pub mod CellCounts
 pub mod Classes
+pub mod Counting
 pub mod Counts
 pub mod Declared
 pub mod Existence

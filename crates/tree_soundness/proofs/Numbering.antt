@@ -130,7 +130,7 @@ all_same f g xs ys step came =
     all_come g xs ys (zip_weaker (λ x y. f x ≡ Some y) (λ x y. g x ≡ Some y) xs ys step (come_from f xs ys came))
 
 -- by what is known of each member
-each_same : {A B : Type 0} (f g : A → Option B) (xs : List A) (ys : List B) →
+pub each_same : {A B : Type 0} (f g : A → Option B) (xs : List A) (ys : List B) →
     AllByRecursion (λ x. (y : B) → f x ≡ Some y → g x ≡ Some y) xs → all_some f xs ≡ Some ys → all_some g xs ≡ Some ys
 each_same f g [] ys each came = came
 each_same f g (x ∷ xs) ys each came =

@@ -3,4 +3,4 @@
 
 mod laws;
 
-pub use laws::well_formed_is_sound;
+pub use laws::{cells_are_counted, well_formed_is_sound};
