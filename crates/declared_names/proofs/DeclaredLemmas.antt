@@ -1,37 +1,8 @@
 -- The tables of the names that items declare.
-use Rattle.std.proofs.Common.{
-  ◌≡◌,
-  ℕ,
-  ◌+◌,
-  ◌<◌,
-  ◌≤◌,
-  Bool,
-  true,
-  false,
-  ◌||◌,
-  cond,
-  if◌then◌else◌,
-  List,
-  [],
-  ◌∷◌,
-  ◌++◌,
-  length,
-  take,
-  get_or,
-  map,
-  find,
-  Option,
-  Some,
-  None,
-  refl,
-  sym,
-  ap,
-  subst,
-  ◌∙◌,
-}
-use Rattle.std.specs.List.{list_any, filter_map, cons_option}
+use Rattle.std.proofs.Common.{◌≡◌, ℕ, ◌+◌, ◌<◌, ◌≤◌, Bool, true, false, ◌||◌, cond, if◌then◌else◌, List, [], ◌∷◌, ◌++◌}
+use Rattle.std.proofs.Common.{length, take, get_or, map, find, Option, Some, None, refl, sym, ap, ◌∙◌}
 use Rattle.std.specs.Option.{option_map, option_or}
-use Rattle.std.specs.Cmp.Lexicographic.{nat_list_eq_equiv, bytes_decides}
+use Rattle.std.specs.Cmp.Lexicographic.{bytes_decides}
 use Rattle.std.proofs.lemmas.List.{take_more, take_all}
 use Rattle.std.proofs.lemmas.List.Elements.{filter_map-append}
 use Rattle.amdl_tree.specs.declared.tree.Item.{Item}
@@ -40,8 +11,8 @@ use Rattle.amdl_tree.specs.Items.{KindItem, FieldItem, kind_item, field_item, ki
 use Rattle.name_tables.specs.Names.{same_name, is_among, told, told_by}
 use Rattle.tree_rules.specs.Spaces.{kind_names}
 use Rattle.tree_rules.specs.Kinds.{kind_of_field, kind_of_value}
-use Rattle.amdl_check.specs.declared.declared.Declared.{Declared}
-use Rattle.amdl_check.specs.Declares.{Declares, told_among}
+use Rattle.declared_names.specs.declared.declared.Declared.{Declared}
+use Rattle.declared_names.specs.Declares.{Declares, told_among}
 
 or_assoc : (a b c : Bool) → (a || b) || c ≡ a || (b || c)
 or_assoc true b c = refl

@@ -4,7 +4,7 @@ use Rattle.amdl_tree.specs.declared.tree.Item.{Item}
 use Rattle.name_tables.specs.Names.{is_among, told}
 use Rattle.tree_rules.specs.Spaces.{kind_names}
 use Rattle.tree_rules.specs.Kinds.{kind_of_field, kind_of_value}
-use Rattle.amdl_check.specs.declared.declared.Declared.{Declared}
+use Rattle.declared_names.specs.declared.declared.Declared.{Declared}
 
 -- the tables have the types, the fields and the values of these items
 pub record Declares (items : List Item) (declared : Declared) : Type 0 where

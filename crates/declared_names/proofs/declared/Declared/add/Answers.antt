@@ -1,5 +1,5 @@
-use Rattle.amdl_check.proofs.DeclaredLemmas.{nothing_added}
-use Rattle.amdl_check.proofs.declared.Declared.add.Goals as goal
+use Rattle.declared_names.proofs.DeclaredLemmas.{nothing_added}
+use Rattle.declared_names.proofs.declared.Declared.add.Goals as goal
 
 pub returns-in_default : goal.returns-in_default
 returns-in_default c before declares =

@@ -1,2 +1,1 @@
-pub mod ByTables
 pub mod Declares

@@ -1,8 +1,8 @@
 use Rattle.std.proofs.Common.{◌≡◌, ℕ, List, take}
 use Rattle.std.specs.Option.{option_or}
 use Rattle.name_tables.specs.Names.{told}
-use Rattle.amdl_check.specs.Declares.{told_among}
-use Rattle.amdl_check.proofs.declared.put_values.Given as goal
+use Rattle.declared_names.specs.Declares.{told_among}
+use Rattle.declared_names.proofs.declared.put_values.Given as goal
 
 -- the values so far tell the type
 abbrev pub invariant-loop-value : goal.invariant-loop-value

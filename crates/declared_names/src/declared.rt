@@ -3,7 +3,7 @@ ghost use Rattle.std.specs.Option.{option_or};
 ghost use Rattle.amdl_tree.specs.declared.tree.Item.TheVariants.{Kind};
 ghost use Rattle.amdl_tree.specs.declared.tree.Item.{Item as AnItem};
 ghost use Rattle.name_tables.specs.Names.{told};
-ghost use Rattle.amdl_check.specs.Declares.{Declares, told_among};
+ghost use Rattle.declared_names.specs.Declares.{Declares, told_among};
 
 use amdl_tree::{Item, Name, NoMemory};
 use name_tables::{NameMap, NameTable};
@@ -11,16 +11,16 @@ use std::alloc::Global;
 
 /// The types, the fields and the values that items declare, each looked up in constant time.
 #[derive(Drop)]
-pub(crate) struct Declared {
-    pub(crate) kinds: NameTable,
+pub struct Declared {
+    pub kinds: NameTable,
     // the type of each field, and of each value the first that has it
-    pub(crate) fields: NameMap,
-    pub(crate) values: NameMap,
+    pub fields: NameMap,
+    pub values: NameMap,
 }
 
 impl Declared {
     /// The tables of no item.
-    pub(crate) fn new(alloc: Global) -> Declared
+    pub fn new(alloc: Global) -> Declared
         ensures { Declares [] result }
     {
         Declared {
@@ -32,7 +32,7 @@ impl Declared {
 
     /// Adds what an item behind these declares. Linear in its values.
     #[tactic(auto, using(crate::proofs::DeclaredLemmas::field_added))]
-    pub(crate) fn add(&mut self, item: &Item) -> Result<(), NoMemory>
+    pub fn add(&mut self, item: &Item) -> Result<(), NoMemory>
         ensures { OnOk result
             ((before : List AnItem) → Declares before self.old → Declares (before ++ item.now ∷ []) self.new) }
     {

@@ -1,3 +1,0 @@
-pub mod ClassLemmas
-pub mod DeclaredLemmas
-pub mod FormLemmas
