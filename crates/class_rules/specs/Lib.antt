@@ -1,0 +1,3 @@
+pub mod ByTables
+pub mod FirstRules
+pub mod Reads
