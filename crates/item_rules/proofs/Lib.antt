@@ -1,0 +1,10 @@
+pub mod BoxLemmas
+pub mod CellsLemmas
+pub mod CountLemmas
+pub mod EndLemmas
+pub mod FormLemmas
+pub mod FoundLemmas
+pub mod HeaderLemmas
+pub mod KindLemmas
+pub mod NodeLemmas
+pub mod PatternLemmas

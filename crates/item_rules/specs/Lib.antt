@@ -1,0 +1,5 @@
+pub mod ByTables
+pub mod CellsLast
+pub mod Chains
+pub mod Counts
+pub mod Found
