@@ -13,9 +13,9 @@ use Rattle.net_plan.specs.Plan.{packets_of, boxes_of}
 use Rattle.net_plan.specs.declared.plan.Plan.{Plan}
 use Rattle.net_plan.specs.declared.fact.Fact.{Fact}
 use Rattle.plan_text.specs.Text.{network_line, facts_line, verdict_text, report_of, count_of_outs, count_of_states}
-use Rattle.plan_text.specs.Text.{count_of_aborts}
+use Rattle.plan_text.specs.Text.{count_of_aborts, items_line, cells_line}
 use Rattle.plan_text.specs.Prints.{IsOneLine, PrintsSafe}
-use Rattle.plan_text.specs.Laws.{SaysSafe}
+use Rattle.plan_text.specs.Laws.{SaysSafe, CountsAreNotSafe}
 use Rattle.plan_text.proofs.DigitLemmas.{decimal-one_line}
 
 one_line_head : (x : ℕ) (xs : List ℕ) → IsOneLine (x ∷ xs) → x ≢ 10
@@ -118,3 +118,35 @@ says_safe plan facts named = record {
     safe = (10 ∷ [], refl);
   };
 }
+
+pub items_line-one_line : (plan : Plan) → IsOneLine (items_line plan)
+items_line-one_line plan =
+    let types = numbers_one_line [] (codes "types ") (length plan.kinds) (printable_one_line [] refl) refl in
+    let fields =
+    numbers_one_line (codes "types " ++ decimal (length plan.kinds)) (codes " fields ")
+    (length plan.fields) types refl in
+    let classes =
+    numbers_one_line
+    (codes "types " ++ decimal (length plan.kinds) ++ codes " fields " ++ decimal (length plan.fields))
+    (codes " classes ") (length plan.classes) fields refl in
+    numbers_one_line
+    (codes "types " ++ decimal (length plan.kinds) ++ codes " fields " ++ decimal (length plan.fields)
+    ++ codes " classes " ++ decimal (length plan.classes))
+    (codes " links ") (length plan.links) classes refl
+
+ends_are_not_safe : (a b : List ℕ) → codes "ends " ++ a ≢ codes "SAFE" ++ b
+ends_are_not_safe a b e =
+    let first : ◌≡◌ {A = ℕ} 101 83 = ap (λ (t : List ℕ). get_or t 0 0) e in
+    absurd (omega arith)
+
+pub counts_tell : CountsAreNotSafe
+counts_tell plan named front rest whole prints =
+    let third = line (cells_line plan) in
+    let same : third ≡ prints.third ++ rest =
+    behind_two_lines (network_line plan) (items_line plan) prints.first prints.second third (prints.third ++ rest)
+    (network_line-one_line plan named) (items_line-one_line plan) prints.first_ends prints.second_ends
+    (whole ∙ ap (λ t. t ++ rest) prints.lines
+    ∙ append_assoc (line prints.first ++ line prints.second) prints.third rest) in
+    let safe : third ≡ codes "SAFE" ++ (prints.safe.0 ++ rest) =
+    same ∙ ap (λ t. t ++ rest) prints.safe.1 ∙ append_assoc (codes "SAFE") prints.safe.0 rest in
+    ends_are_not_safe (drop 5 third) (prints.safe.0 ++ rest) safe

@@ -7,7 +7,7 @@ use Rattle.net_plan.specs.declared.fact.Fact.{Fact}
 use Rattle.net_plan.specs.declared.fact.Fact.TheVariants.{Out, State, Abort}
 use Rattle.net_plan.specs.Laws.{wire_plan}
 use Rattle.plan_text.specs.declared.refusal.NetworkRefusal.{NetworkRefusal}
-use Rattle.plan_text.specs.Text.{network_line, facts_line, report_of}
+use Rattle.plan_text.specs.Text.{network_line, facts_line, counts_of, report_of}
 use Rattle.plan_text.specs.Messages.{usage_text, refused_network, missing_text, fault_load_text}
 use Rattle.plan_text.specs.Prints.{BeginsWith, PrintsSafe}
 
@@ -40,6 +40,10 @@ pub record MessagesAreNotSafe : Type 0 where
   pub missing : (name : List ℕ) → NeverPrintsSafe (missing_text name)
   pub fault_load : (name : List ℕ) → NeverPrintsSafe (fault_load_text name)
 
+-- nor do the counts of a network with a good name
+abbrev pub CountsAreNotSafe : Type 0
+CountsAreNotSafe = (plan : Plan) → IsName plan.name → NeverPrintsSafe (counts_of plan)
+
 -- of the two packets that p puts out on the wire, the second must not get to q
 abbrev pub WireReport : Type 0
 WireReport =
@@ -69,3 +73,12 @@ BoxedWireReport =
     ++ line (codes "ALARM 2")
     ++ line (codes "deliver q 1 from w.outer : src = a, dst = b")
     ++ line (codes "abort w 2 : src = b, dst = a")
+
+-- the counts of that network: its two hosts and the two ports of w are ends, and for each of the four packets there is a
+-- cell at each end, one for the one mask of w and one for the abort at w
+abbrev pub BoxedWireCounts : Type 0
+BoxedWireCounts =
+    counts_of boxed_wire_plan
+    ≡ line (codes "network wire hosts 2 boxes 1 packets 4")
+    ++ line (codes "types 1 fields 2 classes 1 links 2")
+    ++ line (codes "ends 4 cells 24")

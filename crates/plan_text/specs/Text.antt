@@ -10,6 +10,7 @@ use Rattle.net_plan.specs.declared.fact.Fact.TheVariants.{Out, State, Abort}
 use Rattle.net_plan.specs.declared.fact.Place.{Place}
 use Rattle.net_plan.specs.declared.fact.Place.TheVariants.{Host, Port}
 use Rattle.net_plan.specs.Plan.{kind_at, field_at, host_at, box_at, port_name_at, sizes_of, packets_of, boxes_of}
+use Rattle.net_plan.specs.Cells.{cells_of}
 use Rattle.net_plan.specs.Ends.{places_of, ends_of, partner_of, IsLinked, IsEndAt}
 
 -- the network: its name, and how many hosts, boxes and packets it has
@@ -141,6 +142,22 @@ verdict_text plan (fact ∷ facts) =
 -- the network line, the facts line of all facts, and the verdict of the bad ones
 abbrev pub report_of : Plan → List Fact → List Fact → List ℕ
 report_of plan facts bad = line (network_line plan) ++ line (facts_line facts) ++ verdict_text plan bad
+
+-- how many types, fields, classes and links the network has
+abbrev pub items_line : Plan → List ℕ
+items_line plan =
+    codes "types " ++ decimal (length plan.kinds)
+    ++ codes " fields " ++ decimal (length plan.fields)
+    ++ codes " classes " ++ decimal (length plan.classes)
+    ++ codes " links " ++ decimal (length plan.links)
+
+-- how many ends and cells it has
+abbrev pub cells_line : Plan → List ℕ
+cells_line plan = codes "ends " ++ decimal (ends_of plan) ++ codes " cells " ++ decimal (cells_of plan)
+
+-- the network line, and what else the network has a number of
+abbrev pub counts_of : Plan → List ℕ
+counts_of plan = line (network_line plan) ++ line (items_line plan) ++ line (cells_line plan)
 
 -- the end is linked to that of a host
 abbrev pub IsToHost : Plan → ℕ → Type 0

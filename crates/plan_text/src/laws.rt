@@ -1,6 +1,6 @@
 //! Laws over the definitions, each the contract of a function that does nothing.
 ghost use Rattle.plan_text.specs.Laws.{ReportBegins, SafeIsTold, SafeIsPrinted, MessagesAreNotSafe, WireReport};
-ghost use Rattle.plan_text.specs.Laws.{BoxedWireReport};
+ghost use Rattle.plan_text.specs.Laws.{BoxedWireReport, CountsAreNotSafe, BoxedWireCounts};
 
 /// A report begins with `network`.
 pub fn report_begins()
@@ -22,6 +22,11 @@ pub fn messages_are_not_safe()
     ensures { MessagesAreNotSafe }
 {}
 
+/// The counts of a network with a good name never print SAFE, however early they are cut off.
+pub fn counts_are_not_safe()
+    ensures { CountsAreNotSafe }
+{}
+
 /// The report of two hosts on a wire, as its text.
 pub fn report_of_wire()
     ensures { WireReport }
@@ -30,4 +35,9 @@ pub fn report_of_wire()
 /// A report with a delivery from the port of a box and an abort, as its text.
 pub fn report_of_boxed_wire()
     ensures { BoxedWireReport }
+{}
+
+/// The counts of two hosts on a wire with a box in it, as their text.
+pub fn counts_of_boxed_wire()
+    ensures { BoxedWireCounts }
 {}

@@ -3,6 +3,7 @@
 //! Each of these answers want of memory as its only refusal, and then a front of its text was appended.
 #![tactic(auto)]
 
+mod counts;
 mod digits;
 pub mod laws;
 mod lines;
@@ -10,6 +11,7 @@ mod messages;
 mod refusal;
 mod report;
 
+pub use counts::put_counts;
 pub use digits::Digits;
 pub use lines::{put_end, put_facts_line, put_network_line, put_packet};
 pub use messages::{put_fault_load, put_missing, put_refused, usage};

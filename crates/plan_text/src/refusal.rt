@@ -1,4 +1,6 @@
-/// Why the text of a network is refused. Bytes and tokens are counted from 0.
+use tree_rules::Rule;
+
+/// Why the text of a network is refused. Bytes, tokens and items are counted from 0.
 #[derive(Clone, Copy, PartialEq, Eq, Debug)]
 pub enum NetworkRefusal {
     /// The text has more bytes than a network text may have.
@@ -13,6 +15,9 @@ pub enum NetworkRefusal {
     Syntax(u32),
     /// So many tokens begin a network, and only networks that are too deep go on with the next token.
     Deep(u32),
+    /// The item is the first of which a rule holds together with the items before it, and the rule is the first that
+    /// holds of it. Where no item is a field, and no other rule holds, the item is the number of items.
+    BrokenRule { item: u32, rule: Rule },
     /// The network isn't in the form that is analysed.
     FirstForm,
 }

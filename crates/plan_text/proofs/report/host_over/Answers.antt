@@ -1,4 +1,4 @@
-use Rattle.std.proofs.Common.{◌≡◌, ℕ, Option, Some, None, sym, ap, subst, ◌∙◌}
+use Rattle.std.proofs.Common.{ℕ, sym, ap, subst, ◌∙◌}
 use Rattle.net_plan.specs.Ends.{IsEndAt}
 use Rattle.net_plan.specs.declared.fact.Place.TheVariants.{Host}
 use Rattle.plan_text.specs.Text.{host_of_place, host_of_end}

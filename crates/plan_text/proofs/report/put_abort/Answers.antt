@@ -1,4 +1,4 @@
-use Rattle.std.proofs.Common.{◌≡◌, ℕ, List, [], ◌++◌, refl, sym, ap, append-nil}
+use Rattle.std.proofs.Common.{[], ◌++◌, refl, sym, ap, append-nil}
 use Rattle.std.proofs.lemmas.Result.{on_err_weaker}
 use Rattle.plan_text.specs.Text.{abort_start, abort_line, text_of_packet}
 use Rattle.amdl_tree.proofs.AppendLemmas.{on_err, part_first, part_after}
