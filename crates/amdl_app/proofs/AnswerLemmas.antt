@@ -1,51 +1,75 @@
 -- Outcomes of loads have one reply, and words and files one answer.
 use Rattle.std.proofs.Common.{◌≡◌, ℕ, ◌<◌, List, [], ◌∷◌, Some, None, Result, Ok, Err, length, get_or, refl, sym, ap}
 use Rattle.std.proofs.Common.{subst, ◌∙◌, arith, codes}
-use Rattle.narrow_form.specs.Laws.{NarrowLayoutIsOneToOne}
+use Rattle.tree_rules.specs.Laws.{HasOneAnswer}
 use Rattle.network_file.specs.Laws.{OneReading}
 use Rattle.network_file.specs.declared.reading.ReadRefusal.{ReadRefusal}
-use Rattle.amdl_tree.specs.Layout.{layout_of_tree}
 use Rattle.amdl_tree.specs.declared.tree.Tree.{Tree}
 use Rattle.net_plan.specs.declared.plan.Plan.{Plan}
 use Rattle.net_plan.specs.declared.fact.Fact.{Fact}
 use Rattle.net_plan.specs.Laws.{RisingIsUnique, LeastIsUnique}
 use Rattle.net_plan.specs.Fact.{ListsExactly}
 use Rattle.net_plan.specs.Plan.{HasNoBox}
-use Rattle.net_plan.specs.Net.{net}
-use Rattle.narrow_form.specs.NarrowForm.{IsNarrow}
 use Rattle.outside.specs.Files.{FileMap}
 use Rattle.plan_text.specs.Text.{report_of}
 use Rattle.amdl_app.specs.Analysis.{IsBadAmong}
-use Rattle.amdl_app.specs.Reply.{Reply, says}
-use Rattle.amdl_app.specs.Command.{Command, Analyse, Format, Asks, Input, inputs_of}
+use Rattle.amdl_app.specs.Reply.{Reply, says, refuses}
+use Rattle.amdl_app.specs.Command.{Command, Analyse, Check, Format, Asks, Input, inputs_of}
 use Rattle.amdl_app.specs.Loaded.{Loaded, Found, Over, Lacking, Failed, Tells, EachComes}
-use Rattle.amdl_app.specs.Report.{IsReport, IsAnalysis, formless, reported, status_of}
+use Rattle.amdl_app.specs.Report.{IsReport, IsAnalysis, IsAnalysisOf, refused, boxed, reported, status_of}
+use Rattle.amdl_app.specs.Counts.{IsCheck, counted}
 use Rattle.amdl_app.specs.Formatting.{IsFormatting, formatted}
 use Rattle.amdl_app.specs.Answer.{AfterNetwork, IsReplyTo, IsCommandReply, unasked, asked}
 use Rattle.amdl_app.specs.Laws.{ReplyIsUnique, AnswerIsUnique, StoresItsFile}
+use Rattle.amdl_app.proofs.SpelledLemmas.{WhatIsFound, found_plan, not_refused, comes_once}
 
 -- what two calls of the same words ask for is the same
 verb_of : List (List ℕ) → ℕ
 verb_of words = get_or (get_or words 0 []) 0 0
 
-not_both : (words : List (List ℕ)) (one two : List ℕ) → Asks words (Analyse one) → Asks words (Format two) → ⊥
-unfolding verb_of
-not_both words one two first second =
-    let letter : ◌≡◌ {A = ℕ} 97 102 = ap verb_of (sym first ∙ second) in omega arith
+letter_of : Command → ℕ
+letter_of (Analyse network) = 97
+letter_of (Check network) = 99
+letter_of (Format network) = 102
 
-pub network_is_asked : (words : List (List ℕ)) (one two : List ℕ) → Asks words (Analyse one) →
-    Asks words (Analyse two) → one ≡ two
-network_is_asked words one two first second =
-    let e : codes "analyse" ∷ one ∷ [] ≡ codes "analyse" ∷ two ∷ [] = sym first ∙ second in cc
+letter_asked : (words : List (List ℕ)) (command : Command) → Asks words command → verb_of words ≡ letter_of command
+unfolding verb_of letter_of
+letter_asked words (Analyse network) asks = ap verb_of asks
+letter_asked words (Check network) asks = ap verb_of asks
+letter_asked words (Format network) asks = ap verb_of asks
+
+same_letter : (words : List (List ℕ)) (one two : Command) → Asks words one → Asks words two →
+    letter_of one ≡ letter_of two
+same_letter words one two first second = sym (letter_asked words one first) ∙ letter_asked words two second
+
+apart : (words : List (List ℕ)) (one two : Command) → Asks words one → Asks words two →
+    (letter_of one ≡ letter_of two → ⊥) → ⊥
+apart words one two first second differ = differ (same_letter words one two first second)
+
+same_network : (verb : List ℕ) (words : List (List ℕ)) (one two : List ℕ) → words ≡ verb ∷ one ∷ [] →
+    words ≡ verb ∷ two ∷ [] → one ≡ two
+same_network verb words one two first second = let e : verb ∷ one ∷ [] ≡ verb ∷ two ∷ [] = sym first ∙ second in cc
 
 pub command_is_asked : (words : List (List ℕ)) (one two : Command) → Asks words one → Asks words two → one ≡ two
+unfolding letter_of
 command_is_asked words (Analyse one) (Analyse two) first second =
-    ap Analyse (network_is_asked words one two first second)
-command_is_asked words (Analyse one) (Format two) first second = absurd (not_both words one two first second)
-command_is_asked words (Format one) (Analyse two) first second = absurd (not_both words two one second first)
+    ap Analyse (same_network (codes "analyse") words one two first second)
+command_is_asked words (Check one) (Check two) first second =
+    ap Check (same_network (codes "check") words one two first second)
 command_is_asked words (Format one) (Format two) first second =
-    let e : codes "format" ∷ one ∷ [] ≡ codes "format" ∷ two ∷ [] = sym first ∙ second in
-    let same : one ≡ two = cc in ap Format same
+    ap Format (same_network (codes "format") words one two first second)
+command_is_asked words (Analyse one) (Check two) first second =
+    absurd (apart words (Analyse one) (Check two) first second (λ e. omega (arith, e)))
+command_is_asked words (Analyse one) (Format two) first second =
+    absurd (apart words (Analyse one) (Format two) first second (λ e. omega (arith, e)))
+command_is_asked words (Check one) (Analyse two) first second =
+    absurd (apart words (Check one) (Analyse two) first second (λ e. omega (arith, e)))
+command_is_asked words (Check one) (Format two) first second =
+    absurd (apart words (Check one) (Format two) first second (λ e. omega (arith, e)))
+command_is_asked words (Format one) (Analyse two) first second =
+    absurd (apart words (Format one) (Analyse two) first second (λ e. omega (arith, e)))
+command_is_asked words (Format one) (Check two) first second =
+    absurd (apart words (Format one) (Check two) first second (λ e. omega (arith, e)))
 
 -- a map tells one outcome of a load
 found_over : (files : FileMap) (input : Input) (text : List ℕ) → Tells files input (Found text) →
@@ -102,18 +126,11 @@ after_once name goes_on once (Over ∷ others) one two p q = p ∙ sym q
 after_once name goes_on once (Lacking ∷ others) one two p q = p ∙ sym q
 after_once name goes_on once (Failed ∷ others) one two p q = p ∙ sym q
 
--- the network of a narrow tree has no box
-pub boxless : (tree : Tree) → IsNarrow tree → HasNoBox (net tree)
-boxless tree narrow = refl
-
 abbrev report_reply : Plan → List Fact → List Fact → Reply
 report_reply plan facts bad = says (status_of bad) (report_of plan facts bad)
 
-module _ (one_layout : NarrowLayoutIsOneToOne) (one_rising : RisingIsUnique) (one_least : LeastIsUnique)
-    (one_reading : OneReading) where
-  narrow_is_one : (t u : Tree) → IsNarrow t → IsNarrow u → layout_of_tree t ≡ layout_of_tree u → t ≡ u
-  narrow_is_one t u one two same = one_layout t u one two same
-
+module _ (one_reading : OneReading) (one_check : HasOneAnswer) (one_rising : RisingIsUnique)
+    (one_least : LeastIsUnique) where
   report_is_one : (plan : Plan) (one two : Reply) → HasNoBox plan → IsReport plan one → IsReport plan two → one ≡ two
   report_is_one plan one two no_box first second =
       let facts : first.facts ≡ second.facts =
@@ -128,16 +145,38 @@ module _ (one_layout : NarrowLayoutIsOneToOne) (one_rising : RisingIsUnique) (on
       first.told ∙ ap (λ (f : List Fact). report_reply plan f first.bad) facts ∙ ap (report_reply plan second.facts) bad
       ∙ sym second.told
 
+  analysed_once : (found : WhatIsFound) (one two : Reply) → IsAnalysisOf found one → IsAnalysisOf found two → one ≡ two
+  analysed_once found one two (refused refusal is e) (refused other is' e') =
+      let both : ◌≡◌ {A = WhatIsFound} (Err refusal) (Err other) = sym is ∙ is' in
+      let same : refusal ≡ other = cc in e ∙ ap refuses same ∙ sym e'
+  analysed_once found one two (refused refusal is e) (boxed plan is' box e') =
+      absurd (not_refused refusal plan found is is')
+  analysed_once found one two (refused refusal is e) (reported plan is' no_box report) =
+      absurd (not_refused refusal plan found is is')
+  analysed_once found one two (boxed plan is box e) (refused refusal is' e') =
+      absurd (not_refused refusal plan found is' is)
+  analysed_once found one two (boxed plan is box e) (boxed other is' box' e') = e ∙ sym e'
+  analysed_once found one two (boxed plan is box e) (reported other is' no_box report) =
+      absurd (box (subst HasNoBox (found_plan other plan found is' is) no_box))
+  analysed_once found one two (reported plan is no_box report) (refused refusal is' e) =
+      absurd (not_refused refusal plan found is' is)
+  analysed_once found one two (reported plan is no_box report) (boxed other is' box e) =
+      absurd (box (subst HasNoBox (found_plan plan other found is is') no_box))
+  analysed_once found one two (reported plan is no_box report) (reported other is' no_box' report') =
+      report_is_one plan one two no_box report
+      (subst (λ (p : Plan). IsReport p two) (found_plan other plan found is' is) report')
+
   analysis_is_one : (text : List ℕ) (one two : Reply) → IsAnalysis text one → IsAnalysis text two → one ≡ two
-  analysis_is_one text one two (formless none e) (formless none' e') = e ∙ sym e'
-  analysis_is_one text one two (formless none e) (reported tree narrow layout report) =
-      absurd (none (tree, narrow, layout))
-  analysis_is_one text one two (reported tree narrow layout report) (formless none e) =
-      absurd (none (tree, narrow, layout))
-  analysis_is_one text one two (reported tree narrow layout report) (reported tree' narrow' layout' report') =
-      report_is_one (net tree) one two (boxless tree narrow) report
-      (subst (λ (t : Tree). IsReport (net t) two)
-      (narrow_is_one tree' tree narrow' narrow (layout' ∙ sym layout)) report')
+  analysis_is_one text one two first second =
+      analysed_once first.found one two first.analysed
+      (subst (λ (found : WhatIsFound). IsAnalysisOf found two)
+      (comes_once one_reading one_check text second.found first.found second.comes first.comes) second.analysed)
+
+  check_is_one : (text : List ℕ) (one two : Reply) → IsCheck text one → IsCheck text two → one ≡ two
+  check_is_one text one two first second =
+      first.told
+      ∙ ap (λ (found : WhatIsFound). counted found)
+      (comes_once one_reading one_check text first.found second.found first.comes second.comes) ∙ sym second.told
 
   formatting_is_one : (text : List ℕ) (one two : Reply) → IsFormatting text one → IsFormatting text two → one ≡ two
   formatting_is_one text one two first second =
@@ -148,6 +187,7 @@ module _ (one_layout : NarrowLayoutIsOneToOne) (one_rising : RisingIsUnique) (on
   pub reply_is_one : ReplyIsUnique
   reply_is_one (Analyse network) =
       after_once network (λ text others. IsAnalysis text) (λ text others. analysis_is_one text)
+  reply_is_one (Check network) = after_once network (λ text others. IsCheck text) (λ text others. check_is_one text)
   reply_is_one (Format network) =
       after_once network (λ text others. IsFormatting text) (λ text others. formatting_is_one text)
 
@@ -177,9 +217,20 @@ stores_nothing name goes_on none (Over ∷ others) reply p = ap (λ (r : Reply).
 stores_nothing name goes_on none (Lacking ∷ others) reply p = ap (λ (r : Reply). r.stored) p
 stores_nothing name goes_on none (Failed ∷ others) reply p = ap (λ (r : Reply). r.stored) p
 
+analysed_stores : (found : WhatIsFound) (reply : Reply) → IsAnalysisOf found reply → reply.stored ≡ None
+analysed_stores found reply (refused refusal is e) = ap (λ (r : Reply). r.stored) e
+analysed_stores found reply (boxed plan is box e) = ap (λ (r : Reply). r.stored) e
+analysed_stores found reply (reported plan is no_box report) = ap (λ (r : Reply). r.stored) report.told
+
 analysis_stores : (text : List ℕ) (reply : Reply) → IsAnalysis text reply → reply.stored ≡ None
-analysis_stores text reply (formless none e) = ap (λ (r : Reply). r.stored) e
-analysis_stores text reply (reported tree narrow layout report) = ap (λ (r : Reply). r.stored) report.told
+analysis_stores text reply a = analysed_stores a.found reply a.analysed
+
+counted_stores : (found : WhatIsFound) → (counted found).stored ≡ None
+counted_stores (Ok plan) = refl
+counted_stores (Err refusal) = refl
+
+check_stores : (text : List ℕ) (reply : Reply) → IsCheck text reply → reply.stored ≡ None
+check_stores text reply c = ap (λ (r : Reply). r.stored) c.told ∙ counted_stores c.found
 
 formatted_stores : (reading : Result Tree ReadRefusal) → (formatted reading).stored ≡ None
 formatted_stores (Ok tree) = refl
@@ -192,6 +243,9 @@ pub stores_own_file : StoresItsFile
 stores_own_file (Analyse network) loads reply p file stored =
     absurd (let none = stores_nothing network (λ text others. IsAnalysis text)
     (λ text others. analysis_stores text) loads reply p in let both : None ≡ Some file = sym none ∙ stored in cc)
+stores_own_file (Check network) loads reply p file stored =
+    absurd (let none = stores_nothing network (λ text others. IsCheck text)
+    (λ text others. check_stores text) loads reply p in let both : None ≡ Some file = sym none ∙ stored in cc)
 stores_own_file (Format network) loads reply p file stored =
     absurd (let none = stores_nothing network (λ text others. IsFormatting text)
     (λ text others. formatting_stores text) loads reply p in let both : None ≡ Some file = sym none ∙ stored in cc)

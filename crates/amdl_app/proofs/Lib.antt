@@ -3,4 +3,5 @@ mod Listing
 mod LoadLemmas
 mod PromiseLemmas
 mod SafeLemmas
+mod SpelledLemmas
 mod Words

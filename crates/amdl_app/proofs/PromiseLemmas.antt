@@ -15,11 +15,13 @@ use Rattle.plan_text.specs.Messages.{usage_text, missing_text, fault_load_text}
 use Rattle.plan_text.specs.declared.refusal.NetworkRefusal.{NetworkRefusal}
 use Rattle.plan_text.specs.declared.refusal.NetworkRefusal.TheVariants.{TooLong, FirstForm}
 use Rattle.amdl_app.specs.Reply.{Reply, says, refuses}
-use Rattle.amdl_app.specs.Command.{Command, Analyse, Format, Asks, AskNothing, Input, LoadsFile, network_input}
+use Rattle.amdl_app.specs.Command.{Command, Analyse, Check, Format, Asks, AskNothing, Input, LoadsFile, network_input}
 use Rattle.amdl_app.specs.Command.{inputs_of}
 use Rattle.amdl_app.specs.Loaded.{Loaded, Found, Over, Lacking, Failed, Tells, MayCome, EachComes}
-use Rattle.amdl_app.specs.Report.{IsAnalysis, formless, reported, status_of}
-use Rattle.amdl_app.specs.Formatting.{IsFormatting, formatted, refusal_of}
+use Rattle.amdl_app.specs.Report.{IsAnalysis, IsAnalysisOf, refused, boxed, reported, status_of}
+use Rattle.amdl_app.specs.Counts.{IsCheck, counted}
+use Rattle.amdl_app.specs.Formatting.{IsFormatting, formatted}
+use Rattle.amdl_app.specs.Spelled.{refusal_of}
 use Rattle.amdl_app.specs.Answer.{AfterNetwork, IsReply, IsAnswer, unasked, asked}
 use Rattle.amdl_app.specs.Laws.{AnswerIsUnique}
 use Rattle.amdl_app.specs.Outcome.{whole, failed, unfinished, IsCall, no_memory, replied}
@@ -27,6 +29,7 @@ use Rattle.amdl_app.specs.Promises.{GivesAnswer, AnswersUpToThree, AnswersUnhind
 use Rattle.amdl_app.specs.Promises.{RefusalIsRight, IsFileFault, lacks, fails, FileFaultIsRight, SinkFaultIsRight}
 use Rattle.amdl_app.specs.Promises.{IsCut, nothing, part, fault, CutsAreFronts}
 use Rattle.amdl_app.specs.Seen.{FilesSeen, Seen, WhereTold}
+use Rattle.amdl_app.proofs.SpelledLemmas.{WhatIsFound}
 
 -- what a reply to a text is
 data TextKind (reply : Reply) : Type 0 where
@@ -37,11 +40,22 @@ report_status : (bad : List Fact) → status_of bad ≤ 1
 report_status [] = omega arith
 report_status (fact ∷ facts) = omega arith
 
-analysis_kind : (text : List ℕ) (reply : Reply) → IsAnalysis text reply → TextKind reply
-analysis_kind text reply (formless none e) = ill FirstForm e
-analysis_kind text reply (reported tree narrow layout report) =
+analysed_kind : (found : WhatIsFound) (reply : Reply) → IsAnalysisOf found reply → TextKind reply
+analysed_kind found reply (refused refusal is e) = ill refusal e
+analysed_kind found reply (boxed plan is box e) = ill FirstForm e
+analysed_kind found reply (reported plan is no_box report) =
     let s : reply.status ≡ status_of report.bad =
     ap (λ (r : Reply). r.status) report.told in well (omega (arith, report_status report.bad))
+
+analysis_kind : (text : List ℕ) (reply : Reply) → IsAnalysis text reply → TextKind reply
+analysis_kind text reply a = analysed_kind a.found reply a.analysed
+
+counted_kind : (found : WhatIsFound) (reply : Reply) → reply ≡ counted found → TextKind reply
+counted_kind (Ok plan) reply e = let s : reply.status ≡ 0 = ap (λ (r : Reply). r.status) e in well (omega arith)
+counted_kind (Err refusal) reply e = ill refusal e
+
+check_kind : (text : List ℕ) (reply : Reply) → IsCheck text reply → TextKind reply
+check_kind text reply c = counted_kind c.found reply c.told
 
 formatted_kind : (reading : Result Tree ReadRefusal) (reply : Reply) → reply ≡ formatted reading → TextKind reply
 formatted_kind (Ok tree) reply e = let s : reply.status ≡ 0 = ap (λ (r : Reply). r.status) e in well (omega arith)
@@ -132,6 +146,9 @@ module _ (words : List (List ℕ)) (before after : FilesSeen) where
   analyses : (network : List ℕ) → Asks words (Analyse network) → LoadsFile words network
   analyses network asks = loads_one words (Analyse network) network asks refl
 
+  checks : (network : List ℕ) → Asks words (Check network) → LoadsFile words network
+  checks network asks = loads_one words (Check network) network asks refl
+
   formats : (network : List ℕ) → Asks words (Format network) → LoadsFile words network
   formats network asks = loads_one words (Format network) network asks refl
 
@@ -140,6 +157,9 @@ module _ (words : List (List ℕ)) (before after : FilesSeen) where
   kind_of reply (asked (Analyse network) asks (loads, each, p)) =
       after_kind words before after network (analyses network asks) (λ text others. IsAnalysis text)
       (λ text others. analysis_kind text) loads reply each p
+  kind_of reply (asked (Check network) asks (loads, each, p)) =
+      after_kind words before after network (checks network asks) (λ text others. IsCheck text)
+      (λ text others. check_kind text) loads reply each p
   kind_of reply (asked (Format network) asks (loads, each, p)) =
       after_kind words before after network (formats network asks) (λ text others. IsFormatting text)
       (λ text others. formatting_kind text) loads reply each p
@@ -152,6 +172,12 @@ module _ (words : List (List ℕ)) (before after : FilesSeen) where
       elim (after_tells words before after network (analyses network asks)
       (λ text others. IsAnalysis text) files is loads reply each p) [
         | inl told ↦ inl (asked (Analyse network) asks (loads, told, p))
+        | inr failure ↦ inr failure
+      ]
+  reply_answers files reply is (asked (Check network) asks (loads, each, p)) =
+      elim (after_tells words before after network (checks network asks)
+      (λ text others. IsCheck text) files is loads reply each p) [
+        | inl told ↦ inl (asked (Check network) asks (loads, told, p))
         | inr failure ↦ inr failure
       ]
   reply_answers files reply is (asked (Format network) asks (loads, each, p)) =
@@ -347,16 +373,16 @@ module _ (words : List (List ℕ)) (before after : Seen) (status : ℕ) where
         ]
 
     refused_status : (files : FileMap) → before.files.told ≡ Some files → HasRefusal words files → Called → 3 ≤ status
-    refused_status files is refused (no_memory s e f) = omega arith
-    refused_status files is refused (replied reply p f (whole s e)) =
-        omega (arith, refusing_status files reply is refused p)
-    refused_status files is refused (replied reply p f (failed s rose front)) = omega arith
-    refused_status files is refused (replied reply p f (unfinished s front)) = omega arith
+    refused_status files is denied (no_memory s e f) = omega arith
+    refused_status files is denied (replied reply p f (whole s e)) =
+        omega (arith, refusing_status files reply is denied p)
+    refused_status files is denied (replied reply p f (failed s rose front)) = omega arith
+    refused_status files is denied (replied reply p f (unfinished s front)) = omega arith
 
     pub refusal_is_right : Called → RefusalIsRight words before status
     refusal_is_right called = record {
       only = refusal_only called;
-      statuses = λ files is refused. (refused_status files is refused called, status_in_range called);
+      statuses = λ files is denied. (refused_status files is denied called, status_in_range called);
     }
 
   -- faults of the files

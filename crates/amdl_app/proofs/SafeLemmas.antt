@@ -1,37 +1,40 @@
 -- SAFE is said only where no derivation ends in a bad fact.
-use Rattle.std.proofs.Common.{◌≡◌, ℕ, ◌<◌, ◌≤◌, inl, inr, List, [], ◌∷◌, ◌++◌, Option, Some, None, refl, sym, ap, subst}
-use Rattle.std.proofs.Common.{◌∙◌, arith, length}
+use Rattle.std.proofs.Common.{◌≡◌, ◌≢◌, ℕ, ◌<◌, ◌≤◌, ◌⊎◌, Ok, Err, inl, inr, List, [], ◌∷◌}
+use Rattle.std.proofs.Common.{◌++◌, Option, Some, None, refl, sym, ap, subst, ◌∙◌, arith, length}
 use Rattle.std.specs.List.{Contains}
 use Rattle.std.specs.Io.KnownBytes.{append_known}
 use Rattle.std.proofs.lemmas.List.{append-nil, append_cancel_left}
 use Rattle.std.proofs.lemmas.List.Elements.{Contains-append_left, Contains-push}
-use Rattle.narrow_form.specs.Laws.{NarrowLayoutIsOneToOne}
-use Rattle.amdl_tree.specs.Layout.{layout_of_tree}
-use Rattle.amdl_tree.specs.declared.tree.Tree.{Tree}
 use Rattle.net_plan.specs.declared.plan.Plan.{Plan}
 use Rattle.net_plan.specs.declared.fact.Fact.{Fact}
-use Rattle.net_plan.specs.Net.{net}
-use Rattle.net_plan.specs.Follows.{IsLeast}
-use Rattle.net_runs.specs.World.{HasNoBadRun}
+use Rattle.net_plan.specs.Plan.{HasNoBox}
 use Rattle.net_runs.specs.Laws.{SafeNetworkRunsSafely}
-use Rattle.narrow_form.specs.NarrowForm.{IsNarrow}
+use Rattle.tree_rules.specs.Laws.{HasOneAnswer}
+use Rattle.network_file.specs.Laws.{OneReading}
 use Rattle.outside.specs.Faults.{Rose}
 use Rattle.outside.specs.Files.{FileMap, file_of, LacksFile, IsLonger}
 use Rattle.outside.specs.Sink.{AppendsFront}
-use Rattle.plan_text.specs.Messages.{usage_text, missing_text, fault_load_text}
+use Rattle.plan_text.specs.Messages.{usage_text, refused_network, missing_text, fault_load_text}
 use Rattle.plan_text.specs.Prints.{PrintsSafe}
 use Rattle.plan_text.specs.Laws.{SafeIsTold, MessagesAreNotSafe}
+use Rattle.plan_text.specs.declared.refusal.NetworkRefusal.{NetworkRefusal}
 use Rattle.plan_text.specs.declared.refusal.NetworkRefusal.TheVariants.{TooLong, FirstForm}
 use Rattle.amdl_app.specs.Reply.{Reply, says, refuses}
-use Rattle.amdl_app.specs.Command.{Command, Analyse, Asks, text_limit}
-use Rattle.amdl_app.specs.Loaded.{Found, Over, Lacking, Failed, MayCome}
-use Rattle.amdl_app.specs.Report.{IsReport, IsAnalysis, formless, reported, status_of, HasNoBad, HasBad}
-use Rattle.amdl_app.specs.Answer.{IsCommandReply, IsReply, unasked, asked}
+use Rattle.amdl_app.specs.Command.{Command, Analyse, Check, Asks, network_input, text_limit}
+use Rattle.amdl_app.specs.Counts.{IsCheck, counted}
+use Rattle.amdl_app.specs.Loaded.{Loaded, Found, Over, Lacking, Failed, EachComes, MayCome}
+use Rattle.amdl_app.specs.Report.{IsReport, IsAnalysis, IsAnalysisOf, refused, boxed, reported, status_of, HasNoBad}
+use Rattle.amdl_app.specs.Report.{HasBad}
+use Rattle.amdl_app.specs.Answer.{AfterNetwork, IsCommandReply, IsReply, unasked, asked}
 use Rattle.amdl_app.specs.Outcome.{whole, failed, unfinished, IsCall, no_memory, replied}
-use Rattle.amdl_app.specs.Promises.{CallSaysSafe, SafeOnly, SafeRuns, StatusIsRight, SafeIf}
+use Rattle.amdl_app.specs.Promises.{CallSaysSafe, IsSafeText, SafeOnly, StatusIsRight, SafeIf, IsCountedText}
+use Rattle.amdl_app.specs.Promises.{AnalysisIsRight, CountsOnly, CountsIf}
 use Rattle.amdl_app.specs.Seen.{FilesSeen, Seen, WhereTold}
-use Rattle.amdl_app.proofs.AnswerLemmas.{boxless, command_is_asked}
+use Rattle.amdl_app.specs.Spelled.{ComesTo}
+use Rattle.amdl_app.proofs.AnswerLemmas.{command_is_asked}
 use Rattle.amdl_app.proofs.Listing.{none_there}
+use Rattle.amdl_app.proofs.SpelledLemmas.{WhatIsFound, Spells, spells, found_plan, not_refused, comes_once}
+use Rattle.amdl_app.proofs.SpelledLemmas.{comes_to_plan}
 
 report_is_safe : (plan : Plan) (reply : Reply) (report : IsReport plan reply) → report.bad ≡ [] → HasNoBad plan
 report_is_safe plan reply report none fact derivable bad =
@@ -55,102 +58,127 @@ some_status : (bad : List Fact) → status_of bad ≡ 1 → (fact : Fact) × (ot
 some_status [] one = absurd (omega arith)
 some_status (fact ∷ facts) one = (fact, facts, refl)
 
--- the reply to `analyse`, by what loading its file came to
-data Analysing (before after : FilesSeen) (network : List ℕ) (reply : Reply) : Type 0 where
-  found : (text : List ℕ) → WhereTold before (λ files. file_of files network ≡ Some text) → IsAnalysis text reply →
-      Analysing before after network reply
+-- the reply to a verb that reads a network, by what loading its file came to
+data Loading (before after : FilesSeen) (network : List ℕ) (goes_on : List ℕ → Reply → Type 0) (reply : Reply)
+    : Type 0 where
+  came : (text : List ℕ) → WhereTold before (λ files. file_of files network ≡ Some text) → goes_on text reply →
+      Loading before after network goes_on reply
   longer : WhereTold before (λ files. IsLonger (file_of files network) text_limit) → reply ≡ refuses TooLong →
-      Analysing before after network reply
+      Loading before after network goes_on reply
   lacking : LacksFile before.told network before.faults after.faults → reply ≡ says 4 (missing_text network) →
-      Analysing before after network reply
+      Loading before after network goes_on reply
   failing : Rose before.faults after.faults → reply ≡ says 4 (fault_load_text network) →
-      Analysing before after network reply
+      Loading before after network goes_on reply
 
-analysing_by : (before after : FilesSeen) (network : List ℕ) (reply : Reply) →
-    IsCommandReply (MayCome before after) (Analyse network) reply → Analysing before after network reply
-analysing_by before after network reply ([], each, p) = absurd each
-analysing_by before after network reply ((loaded ∷ other ∷ others), each, p) = absurd each.1
-analysing_by before after network reply ((Found text ∷ []), each, p) = found text each.0.1 p
-analysing_by before after network reply ((Over ∷ []), each, p) = longer each.0 p
-analysing_by before after network reply ((Lacking ∷ []), each, p) = lacking each.0 p
-analysing_by before after network reply ((Failed ∷ []), each, p) = failing each.0 p
+loading_by : (before after : FilesSeen) (network : List ℕ) (goes_on : List ℕ → Reply → Type 0) (reply : Reply)
+    (loads : List Loaded) → EachComes (MayCome before after) (network_input network ∷ []) loads →
+    AfterNetwork network (λ text others. goes_on text) loads reply → Loading before after network goes_on reply
+loading_by before after network goes_on reply [] each p = absurd each
+loading_by before after network goes_on reply (loaded ∷ other ∷ others) each p = absurd each.1
+loading_by before after network goes_on reply (Found text ∷ []) each p = came text each.0.1 p
+loading_by before after network goes_on reply (Over ∷ []) each p = longer each.0 p
+loading_by before after network goes_on reply (Lacking ∷ []) each p = lacking each.0 p
+loading_by before after network goes_on reply (Failed ∷ []) each p = failing each.0 p
+
+command_reply : (words : List (List ℕ)) (before after : FilesSeen) (command : Command) (reply : Reply) →
+    Asks words command → IsReply (MayCome before after) words reply →
+    IsCommandReply (MayCome before after) command reply
+command_reply words before after command reply asks (unasked none e) = absurd (none command asks)
+command_reply words before after command reply asks (asked other asks' p) =
+    subst (λ (c : Command). IsCommandReply (MayCome before after) c reply)
+    (command_is_asked words other command asks' asks) p
 
 analysing : (words : List (List ℕ)) (before after : FilesSeen) (network : List ℕ) (reply : Reply) →
-    Asks words (Analyse network) →
-    IsReply (MayCome before after) words reply → Analysing before after network reply
-analysing words before after network reply asks (unasked none e) = absurd (none (Analyse network) asks)
-analysing words before after network reply asks (asked command asks' p) =
-    analysing_by before after network reply
-    (subst (λ (c : Command). IsCommandReply (MayCome before after) c reply)
-    (command_is_asked words command (Analyse network) asks' asks) p)
+    Asks words (Analyse network) → IsReply (MayCome before after) words reply →
+    Loading before after network IsAnalysis reply
+analysing words before after network reply asks p =
+    let c = command_reply words before after (Analyse network) reply asks p in
+    loading_by before after network IsAnalysis reply c.0 c.1 c.2
 
--- the file has the narrow form, and its network has no bad fact
+checking : (words : List (List ℕ)) (before after : FilesSeen) (network : List ℕ) (reply : Reply) →
+    Asks words (Check network) → IsReply (MayCome before after) words reply →
+    Loading before after network IsCheck reply
+checking words before after network reply asks p =
+    let c = command_reply words before after (Check network) reply asks p in
+    loading_by before after network IsCheck reply c.0 c.1 c.2
+
+-- the file is told, and its network is safe
 record IsFoundSafe (before : FilesSeen) (network : List ℕ) : Type 0 where
   text : List ℕ
   there : WhereTold before (λ files. file_of files network ≡ Some text)
-  tree : Tree
-  narrow : IsNarrow tree
-  layout : layout_of_tree tree ≡ text
-  safe : HasNoBad (net tree)
-  facts : List Fact
-  least : IsLeast (net tree) facts
+  safe : IsSafeText text
 
-module _ (before after : FilesSeen) (network : List ℕ) where
-  found_safe : (text : List ℕ) (reply : Reply) → WhereTold before (λ files. file_of files network ≡ Some text) →
-      (tree : Tree) → IsNarrow tree → layout_of_tree tree ≡ text → (report : IsReport (net tree) reply) →
-      report.bad ≡ [] → IsFoundSafe before network
-  found_safe text reply there tree narrow layout report none =
-      record {
-        text = text;
-        there = there;
-        tree = tree;
-        narrow = narrow;
-        layout = layout;
-        safe = report_is_safe
-            (net tree) reply report none;
-        facts = report.facts;
-        least = report.least;
+module _ (runs : SafeNetworkRunsSafely) where
+  safe_text : (text : List ℕ) (plan : Plan) (reply : Reply) → Spells text plan → HasNoBox plan →
+      (report : IsReport plan reply) → report.bad ≡ [] → IsSafeText text
+  safe_text text plan reply spelled no_box report none =
+      let no_bad : HasNoBad plan = report_is_safe plan reply report none in record {
+        tree = spelled.tree;
+        plan = plan;
+        file = spelled.file;
+        network = spelled.network;
+        no_box = no_box;
+        no_bad_fact = no_bad;
+        no_bad_run = runs plan report.facts no_box report.least
+            (λ fact there bad. no_bad fact ((report.least.member fact).0 there) bad);
       }
 
-  zero_reply : (reply : Reply) → Analysing before after network reply → reply.status ≡ 0 → IsFoundSafe before network
-  zero_reply reply (found text there (formless none e)) zero' =
+  zero_analysed : (text : List ℕ) (found : WhatIsFound) (reply : Reply) → ComesTo text found →
+      IsAnalysisOf found reply → reply.status ≡ 0 → IsSafeText text
+  zero_analysed text found reply comes (refused refusal is e) zero' =
       let s : reply.status ≡ 3 = ap (λ (r : Reply). r.status) e in absurd (omega arith)
-  zero_reply reply (found text there (reported tree narrow layout report)) zero' =
-      found_safe text reply there tree narrow layout report
+  zero_analysed text found reply comes (boxed plan is box e) zero' =
+      let s : reply.status ≡ 3 = ap (λ (r : Reply). r.status) e in absurd (omega arith)
+  zero_analysed text found reply comes (reported plan is no_box report) zero' =
+      safe_text text plan reply (spells text plan found is comes) no_box report
       (no_status report.bad (sym (ap (λ (r : Reply). r.status) report.told) ∙ zero'))
-  zero_reply reply (longer over e) zero' =
-      let s : reply.status ≡ 3 = ap (λ (r : Reply). r.status) e in absurd (omega arith)
-  zero_reply reply (lacking lack e) zero' =
-      let s : reply.status ≡ 4 = ap (λ (r : Reply). r.status) e in absurd (omega arith)
-  zero_reply reply (failing rose e) zero' =
-      let s : reply.status ≡ 4 = ap (λ (r : Reply). r.status) e in absurd (omega arith)
 
   module _ (safe_is_told : SafeIsTold) (messages : MessagesAreNotSafe) where
-    front_reply : (reply : Reply) → Analysing before after network reply → (front rest : List ℕ) →
-        reply.text ≡ front ++ rest → PrintsSafe front → IsFoundSafe before network
-    front_reply reply (found text there (formless none e)) front rest cut prints =
+    front_analysed : (text : List ℕ) (found : WhatIsFound) (reply : Reply) → ComesTo text found →
+        IsAnalysisOf found reply → (front rest : List ℕ) → reply.text ≡ front ++ rest → PrintsSafe front →
+        IsSafeText text
+    front_analysed text found reply comes (refused refusal is e) front rest cut prints =
+        absurd (messages.refused refusal front rest (sym (ap (λ (r : Reply). r.text) e) ∙ cut) prints)
+    front_analysed text found reply comes (boxed plan is box e) front rest cut prints =
         absurd (messages.refused FirstForm front rest (sym (ap (λ (r : Reply). r.text) e) ∙ cut) prints)
-    front_reply reply (found text there (reported tree narrow layout report)) front rest cut prints =
-        found_safe text reply there tree narrow layout report
-        (safe_is_told (net tree) report.facts report.bad front rest narrow.built.named
+    front_analysed text found reply comes (reported plan is no_box report) front rest cut prints =
+        let spelled = spells text plan found is comes in
+        safe_text text plan reply spelled no_box report
+        (safe_is_told plan report.facts report.bad front rest spelled.network.sound.names.named
         (sym (ap (λ (r : Reply). r.text) report.told) ∙ cut) prints)
-    front_reply reply (longer over e) front rest cut prints =
+
+  module _ (before after : FilesSeen) (network : List ℕ) where
+    zero_reply : (reply : Reply) → Loading before after network IsAnalysis reply → reply.status ≡ 0 →
+        IsFoundSafe before network
+    zero_reply reply (came text there a) zero' =
+        record { text = text; there = there; safe = zero_analysed text a.found reply a.comes a.analysed zero' }
+    zero_reply reply (longer over e) zero' =
+        let s : reply.status ≡ 3 = ap (λ (r : Reply). r.status) e in absurd (omega arith)
+    zero_reply reply (lacking lack e) zero' =
+        let s : reply.status ≡ 4 = ap (λ (r : Reply). r.status) e in absurd (omega arith)
+    zero_reply reply (failing rose e) zero' =
+        let s : reply.status ≡ 4 = ap (λ (r : Reply). r.status) e in absurd (omega arith)
+
+    front_reply : SafeIsTold → MessagesAreNotSafe → (reply : Reply) → Loading before after network IsAnalysis reply →
+        (front rest : List ℕ) → reply.text ≡ front ++ rest → PrintsSafe front → IsFoundSafe before network
+    front_reply told messages reply (came text there a) front rest cut prints = record {
+      text = text;
+      there = there;
+      safe = front_analysed told messages text a.found reply a.comes a.analysed front rest cut prints;
+    }
+    front_reply told messages reply (longer over e) front rest cut prints =
         absurd (messages.refused TooLong front rest (sym (ap (λ (r : Reply). r.text) e) ∙ cut) prints)
-    front_reply reply (lacking lack e) front rest cut prints =
+    front_reply told messages reply (lacking lack e) front rest cut prints =
         absurd (messages.missing network front rest (sym (ap (λ (r : Reply). r.text) e) ∙ cut) prints)
-    front_reply reply (failing rose e) front rest cut prints =
+    front_reply told messages reply (failing rose e) front rest cut prints =
         absurd (messages.fault_load network front rest (sym (ap (λ (r : Reply). r.text) e) ∙ cut) prints)
 
-module _ (words : List (List ℕ)) (before after : Seen) (status : ℕ) (safe_is_told : SafeIsTold)
-    (messages : MessagesAreNotSafe) (one_layout : NarrowLayoutIsOneToOne) where
+module _ (words : List (List ℕ)) (before after : Seen) (status : ℕ) where
   abbrev Called : Type 0
   Called = IsCall words before after status
 
   abbrev Replies : Reply → Type 0
   Replies reply = IsReply (MayCome before.files after.files) words reply
-
-  one_tree : (t u : Tree) → IsNarrow t → IsNarrow u → layout_of_tree t ≡ layout_of_tree u → t ≡ u
-  one_tree t u one two same = one_layout t u one two same
 
   appended_is_front : (old appended text : List ℕ) → before.sink.written ≡ Some old →
       after.sink.written ≡ Some (old ++ appended) →
@@ -169,17 +197,15 @@ module _ (words : List (List ℕ)) (before after : Seen) (status : ℕ) (safe_is
   nothing_is_front None = refl
   nothing_is_front (Some bytes) = ap Some (sym (append-nil bytes))
 
-  module _ (network : List ℕ) (asks : Asks words (Analyse network)) where
-    reply_of_call : (reply : Reply) → Replies reply → Analysing before.files after.files network reply
-    reply_of_call reply p = analysing words before.files after.files network reply asks p
-
+  module _ (network : List ℕ) (asks : Asks words (Analyse network)) (runs : SafeNetworkRunsSafely)
+      (safe_is_told : SafeIsTold) (messages : MessagesAreNotSafe) where
     printed_front : (old appended : List ℕ) → before.sink.written ≡ Some old →
         after.sink.written ≡ Some (old ++ appended) → PrintsSafe appended →
         (reply : Reply) → Replies reply → AppendsFront before.sink.written after.sink.written reply.text →
         IsFoundSafe before.files network
     printed_front old appended was is prints reply p front =
-        front_reply before.files after.files network safe_is_told messages reply
-        (reply_of_call reply p) front.0 front.1.0 front.1.1
+        front_reply runs before.files after.files network safe_is_told messages reply
+        (analysing words before.files after.files network reply asks p) front.0 front.1.0 front.1.1
         (subst PrintsSafe (appended_is_front old appended reply.text was is front) prints)
 
     printed : (old appended : List ℕ) → before.sink.written ≡ Some old → after.sink.written ≡ Some (old ++ appended) →
@@ -199,7 +225,8 @@ module _ (words : List (List ℕ)) (before after : Seen) (status : ℕ) (safe_is
     zero_called : status ≡ 0 → Called → IsFoundSafe before.files network
     zero_called zero' (no_memory s e f) = absurd (omega arith)
     zero_called zero' (replied reply p f (whole s e)) =
-        zero_reply before.files after.files network reply (reply_of_call reply p) (sym s ∙ zero')
+        zero_reply runs before.files after.files network reply
+        (analysing words before.files after.files network reply asks p) (sym s ∙ zero')
     zero_called zero' (replied reply p f (failed s rose front)) = absurd (omega arith)
     zero_called zero' (replied reply p f (unfinished s front)) = absurd (omega arith)
 
@@ -207,82 +234,199 @@ module _ (words : List (List ℕ)) (before after : Seen) (status : ℕ) (safe_is
     said_safe (inl zero') called = zero_called zero' called
     said_safe (inr some) called = printed some.0 some.1 some.2 some.3 some.4 called
 
-    -- the reply to the told text, of which a tree in the narrow form is known
-    module _ (tree : Tree) (text : List ℕ) (narrow : IsNarrow tree) (layout : layout_of_tree tree ≡ text)
-        (within : length text ≤ text_limit) where
-      small : (bad : List Fact) → status_of bad ≡ 3 → ⊥
-      small [] three = absurd (omega arith)
-      small (fact ∷ facts) three = absurd (omega arith)
+  pub safe_only : SafeNetworkRunsSafely → SafeIsTold → MessagesAreNotSafe → Called →
+      SafeOnly words before after status
+  safe_only runs safe_is_told messages called network asks says' files is =
+      let safe = said_safe network asks runs safe_is_told messages says' called in
+      (safe.text, safe.there files is, safe.safe)
 
-      text_is_right : (reply : Reply) → IsAnalysis text reply → StatusIsRight tree reply.status
-      text_is_right reply (formless none e) = absurd (none (tree, narrow, layout))
-      text_is_right reply (reported tree' narrow' layout' report) =
-          let same : tree' ≡ tree = one_tree tree' tree narrow' narrow (layout' ∙ sym layout) in
-          let is : reply.status ≡ status_of report.bad = ap (λ (r : Reply). r.status) report.told in
-          subst (λ (t : Tree). StatusIsRight t reply.status) same (record {
-            accepted = λ three. small report.bad (sym is ∙ three);
-            safe = λ zero'. report_is_safe (net tree') reply report (no_status report.bad (sym is ∙ zero'));
-            alarm = λ one. let some = some_status report.bad (sym is ∙ one) in alarm_is_bad
-                (net tree') reply report some.0 some.1 some.2;
-          })
+-- what a reply says of the network that a text spells
+record ReplyIsRight (plan : Plan) (reply : Reply) : Type 0 where
+  safe : reply.status ≡ 0 → HasNoBox plan × HasNoBad plan
+  alarm : reply.status ≡ 1 → HasNoBox plan × HasBad plan
+  accepted : HasNoBox plan → reply.status ≢ 3
+  refused' : (HasNoBox plan → ⊥) → reply.status ≤ 3 → reply ≡ refuses FirstForm
 
-      beyond : (n : ℕ) → 4 ≤ n → StatusIsRight tree n
-      beyond n large =
-          record {
-            accepted = λ three. absurd (omega arith);
-            safe = λ zero'. absurd (omega arith);
-            alarm = λ one. absurd
-                (omega arith);
-          }
+boxed_is_right : (plan : Plan) (reply : Reply) → (HasNoBox plan → ⊥) → reply ≡ refuses FirstForm →
+    ReplyIsRight plan reply
+boxed_is_right plan reply box e =
+    let s : reply.status ≡ 3 = ap (λ (r : Reply). r.status) e in record {
+      safe = λ zero'. absurd (omega arith);
+      alarm = λ one. absurd (omega arith);
+      accepted = λ no_box. absurd (box no_box);
+      refused' = λ box' small. e;
+    }
 
-      reply_is_right : (files : FileMap) (reply : Reply) → before.files.told ≡ Some files →
-          file_of files network ≡ Some text →
-          Analysing before.files after.files network reply → StatusIsRight tree reply.status
-      reply_is_right files reply is file (found text' there p) =
-          let both : Some text' ≡ Some text = sym (there files is) ∙ file in
-          let same : text' ≡ text = cc in
-          text_is_right reply (subst (λ (t : List ℕ). IsAnalysis t reply) same p)
-      reply_is_right files reply is file (longer over e) =
-          let large = over files is in
-          let both : Some large.0 ≡ Some text = sym large.1 ∙ file in
-          let same : large.0 ≡ text = cc in
-          let less : text_limit < length text = subst (λ (t : List ℕ). text_limit < length t) same large.2 in
-          absurd (omega arith)
-      reply_is_right files reply is file (lacking lack e) =
-          beyond reply.status (let s : reply.status ≡ 4 = ap (λ (r : Reply). r.status) e in omega arith)
-      reply_is_right files reply is file (failing rose e) =
-          beyond reply.status (let s : reply.status ≡ 4 = ap (λ (r : Reply). r.status) e in omega arith)
+small_status : (bad : List Fact) → status_of bad ≡ 3 → ⊥
+small_status [] three = absurd (omega arith)
+small_status (fact ∷ facts) three = absurd (omega arith)
 
-      call_is_right : (files : FileMap) → before.files.told ≡ Some files → file_of files network ≡ Some text → Called →
-          StatusIsRight tree status
-      call_is_right files is file (no_memory s e f) = beyond status (omega arith)
-      call_is_right files is file (replied reply p f (whole s e)) =
-          subst (StatusIsRight tree) (sym s) (reply_is_right files reply is file (reply_of_call reply p))
-      call_is_right files is file (replied reply p f (failed s rose front)) = beyond status (omega arith)
-      call_is_right files is file (replied reply p f (unfinished s front)) = beyond status (omega arith)
+report_is_right : (plan : Plan) (reply : Reply) → HasNoBox plan → IsReport plan reply → ReplyIsRight plan reply
+report_is_right plan reply no_box report =
+    let is : reply.status ≡ status_of report.bad = ap (λ (r : Reply). r.status) report.told in record {
+      safe = λ zero'. (no_box, report_is_safe plan reply report (no_status report.bad (sym is ∙ zero')));
+      alarm = λ one. let some = some_status report.bad (sym is ∙ one) in
+          (no_box, alarm_is_bad plan reply report some.0 some.1 some.2);
+      accepted = λ none three. small_status report.bad (sym is ∙ three);
+      refused' = λ box. absurd (box no_box);
+    }
 
-  pub safe_only : Called → SafeOnly words before after status
-  safe_only called network asks says' files is =
-      let safe = said_safe network asks says' called in (
-        safe.text,
-        safe.there files is,
-        record {
-          form = (safe.tree, safe.narrow, safe.layout);
-          safe = λ tree narrow layout. subst (λ (t : Tree). HasNoBad (net t))
-              (one_tree safe.tree tree safe.narrow narrow (safe.layout ∙ sym layout)) safe.safe;
-        },
+analysed_is_right : (plan : Plan) (found : WhatIsFound) (reply : Reply) → found ≡ Ok plan → IsAnalysisOf found reply →
+    ReplyIsRight plan reply
+analysed_is_right plan found reply comes (refused refusal is e) = absurd (not_refused refusal plan found is comes)
+analysed_is_right plan found reply comes (boxed other is box e) =
+    let same : other ≡ plan = found_plan other plan found is comes in
+    subst (λ (p : Plan). ReplyIsRight p reply) same (boxed_is_right other reply box e)
+analysed_is_right plan found reply comes (reported other is no_box report) =
+    let same : other ≡ plan = found_plan other plan found is comes in
+    subst (λ (p : Plan). ReplyIsRight p reply) same (report_is_right other reply no_box report)
+
+analysed_refused : (refusal : NetworkRefusal) (found : WhatIsFound) (reply : Reply) → found ≡ Err refusal →
+    IsAnalysisOf found reply → reply ≡ refuses refusal
+analysed_refused refusal found reply comes (refused other is e) =
+    let both : ◌≡◌ {A = WhatIsFound} (Err other) (Err refusal) = sym is ∙ comes in
+    let same : other ≡ refusal = cc in e ∙ ap refuses same
+analysed_refused refusal found reply comes (boxed plan is box e) = absurd (not_refused refusal plan found comes is)
+analysed_refused refusal found reply comes (reported plan is no_box report) =
+    absurd (not_refused refusal plan found comes is)
+
+-- a file that is told and within the limit was found
+found_there : (before after : FilesSeen) (network text : List ℕ) (goes_on : List ℕ → Reply → Type 0) (reply : Reply)
+    (files : FileMap) → before.told ≡ Some files → file_of files network ≡ Some text → length text ≤ text_limit →
+    Loading before after network goes_on reply → goes_on text reply ⊎ (reply.status ≡ 4)
+found_there before after network text goes_on reply files is file within (came other there p) =
+    let both : Some other ≡ Some text = sym (there files is) ∙ file in
+    let same : other ≡ text = cc in inl (subst (λ (t : List ℕ). goes_on t reply) same p)
+found_there before after network text goes_on reply files is file within (longer over e) =
+    let large = over files is in
+    let both : Some large.0 ≡ Some text = sym large.1 ∙ file in
+    let same : large.0 ≡ text = cc in
+    let less : text_limit < length text = subst (λ (t : List ℕ). text_limit < length t) same large.2 in
+    absurd (omega arith)
+found_there before after network text goes_on reply files is file within (lacking lack e) =
+    inr (ap (λ (r : Reply). r.status) e)
+found_there before after network text goes_on reply files is file within (failing rose e) =
+    inr (ap (λ (r : Reply). r.status) e)
+
+module _ (words : List (List ℕ)) (before after : Seen) (status : ℕ) (one_reading : OneReading)
+    (one_check : HasOneAnswer) where
+  whole_is_right : (plan : Plan) (reply : Reply) → status ≡ reply.status →
+      after.sink.written ≡ append_known before.sink.written reply.text → ReplyIsRight plan reply →
+      StatusIsRight plan before after status
+  whole_is_right plan reply s e right = record {
+    safe = λ zero'. right.safe (sym s ∙ zero');
+    alarm = λ one. right.alarm (sym s ∙ one);
+    accepted = λ no_box three. right.accepted no_box (sym s ∙ three);
+    refused = λ box small.
+        let is : reply ≡ refuses FirstForm = right.refused' box (omega (arith, s)) in (
+          s ∙ ap (λ (r : Reply). r.status) is,
+          e ∙ ap (λ (r : Reply). append_known before.sink.written r.text) is,
+        );
+  }
+
+  beyond_is_right : (plan : Plan) → 4 ≤ status → StatusIsRight plan before after status
+  beyond_is_right plan large = record {
+    safe = λ zero'. absurd (omega arith);
+    alarm = λ one. absurd (omega arith);
+    accepted = λ no_box three. absurd (omega arith);
+    refused = λ box small. absurd (omega arith);
+  }
+
+  refused_is_right : (text : List ℕ) (refusal : NetworkRefusal) (reply : Reply) → ComesTo text (Err refusal) →
+      IsAnalysis text reply → status ≡ reply.status →
+      after.sink.written ≡ append_known before.sink.written reply.text →
+      (status ≡ 3) × (after.sink.written ≡ append_known before.sink.written (refused_network refusal))
+  refused_is_right text refusal reply comes a s e =
+      let is : reply ≡ refuses refusal =
+      analysed_refused refusal a.found reply
+      (comes_once one_reading one_check text a.found (Err refusal) a.comes comes) a.analysed in (
+        s ∙ ap (λ (r : Reply). r.status) is,
+        e ∙ ap (λ (r : Reply). append_known before.sink.written r.text) is,
       )
 
-  pub safe_runs : SafeNetworkRunsSafely → Called → SafeRuns words before after status
-  safe_runs runs called network asks says' files is text file tree narrow layout =
-      let safe = said_safe network asks says' called in
-      let both : Some safe.text ≡ Some text = sym (safe.there files is) ∙ file in
-      let same : safe.text ≡ text = cc in
-      subst (λ (t : Tree). HasNoBadRun (net t))
-      (one_tree safe.tree tree safe.narrow narrow (safe.layout ∙ same ∙ sym layout))
-      (runs (net safe.tree) safe.facts (boxless safe.tree safe.narrow) safe.least
-      (λ fact there bad. safe.safe fact ((safe.least.member fact).0 there) bad))
+  found_is_right : (text : List ℕ) (reply : Reply) → IsAnalysis text reply → status ≡ reply.status →
+      after.sink.written ≡ append_known before.sink.written reply.text → AnalysisIsRight text before after status
+  found_is_right text reply a s e = record {
+    refused = λ refusal comes small. refused_is_right text refusal reply comes a s e;
+    analysed = λ tree plan read well spelled. whole_is_right plan reply s e
+        (analysed_is_right plan a.found reply
+        (comes_to_plan one_reading one_check text tree plan a.found read well spelled a.comes) a.analysed);
+  }
 
-  pub safe_if : Called → SafeIf words before status
-  safe_if called network asks files is text file within tree narrow layout =
-      call_is_right network asks tree text narrow layout within files is file called
+  beyond : (text : List ℕ) → 4 ≤ status → AnalysisIsRight text before after status
+  beyond text large = record {
+    refused = λ refusal comes small. absurd (omega arith);
+    analysed = λ tree plan read well spelled. beyond_is_right plan large;
+  }
+
+  pub safe_if : IsCall words before after status → SafeIf words before after status
+  safe_if (no_memory s e f) network asks files is text file within = beyond text (omega arith)
+  safe_if (replied reply p f (whole s e)) network asks files is text file within =
+      elim (found_there before.files after.files network text IsAnalysis reply files is file within
+      (analysing words before.files after.files network reply asks p)) [
+        | inl a ↦ found_is_right text reply a s e
+        | inr four ↦ beyond text (omega (arith, s, four))
+      ]
+  safe_if (replied reply p f (failed s rose front)) network asks files is text file within = beyond text (omega arith)
+  safe_if (replied reply p f (unfinished s front)) network asks files is text file within = beyond text (omega arith)
+
+  -- the counts
+  zero_counted : (text : List ℕ) (found : WhatIsFound) (reply : Reply) → ComesTo text found → reply ≡ counted found →
+      status ≡ reply.status → after.sink.written ≡ append_known before.sink.written reply.text → status ≡ 0 →
+      IsCountedText before after text
+  zero_counted text (Ok plan) reply comes told s e zero' =
+      let spelled = spells text plan (Ok plan) refl comes in record {
+        tree = spelled.tree;
+        plan = plan;
+        file = spelled.file;
+        network = spelled.network;
+        counts = e ∙ ap (λ (r : Reply). append_known before.sink.written r.text) told;
+      }
+  zero_counted text (Err refusal) reply comes told s e zero' =
+      let three : reply.status ≡ 3 = ap (λ (r : Reply). r.status) told in absurd (omega (arith, s))
+
+  zero_checked : (network : List ℕ) (reply : Reply) → status ≡ reply.status →
+      after.sink.written ≡ append_known before.sink.written reply.text → status ≡ 0 →
+      Loading before.files after.files network IsCheck reply →
+      WhereTold before.files (λ files.
+      (text : List ℕ) × (file_of files network ≡ Some text) × IsCountedText before after text)
+  zero_checked network reply s e zero' (came text there c) files is =
+      (text, there files is, zero_counted text c.found reply c.comes c.told s e zero')
+  zero_checked network reply s e zero' (longer over told) files is =
+      let three : reply.status ≡ 3 = ap (λ (r : Reply). r.status) told in absurd (omega (arith, s))
+  zero_checked network reply s e zero' (lacking lack told) files is =
+      let four : reply.status ≡ 4 = ap (λ (r : Reply). r.status) told in absurd (omega (arith, s))
+  zero_checked network reply s e zero' (failing rose told) files is =
+      let four : reply.status ≡ 4 = ap (λ (r : Reply). r.status) told in absurd (omega (arith, s))
+
+  pub counts_only : IsCall words before after status → CountsOnly words before after status
+  counts_only (no_memory s e f) network asks zero' = absurd (omega arith)
+  counts_only (replied reply p f (whole s e)) network asks zero' =
+      zero_checked network reply s e zero' (checking words before.files after.files network reply asks p)
+  counts_only (replied reply p f (failed s rose front)) network asks zero' = absurd (omega arith)
+  counts_only (replied reply p f (unfinished s front)) network asks zero' = absurd (omega arith)
+
+  counted_right : (text : List ℕ) (found other : WhatIsFound) (reply : Reply) → ComesTo text found →
+      ComesTo text other → reply ≡ counted other → status ≡ reply.status →
+      after.sink.written ≡ append_known before.sink.written reply.text →
+      (status ≡ (counted found).status)
+      × (after.sink.written ≡ append_known before.sink.written (counted found).text)
+  counted_right text found other reply comes comes' told s e =
+      let is : reply ≡ counted found =
+      told ∙ ap (λ (o : WhatIsFound). counted o) (comes_once one_reading one_check text other found comes' comes) in (
+        s ∙ ap (λ (r : Reply). r.status) is,
+        e ∙ ap (λ (r : Reply). append_known before.sink.written r.text) is,
+      )
+
+  pub counts_if : IsCall words before after status → CountsIf words before after status
+  counts_if (no_memory s e f) network asks files is text file within found comes small = absurd (omega arith)
+  counts_if (replied reply p f (whole s e)) network asks files is text file within found comes small =
+      elim (found_there before.files after.files network text IsCheck reply files is file within
+      (checking words before.files after.files network reply asks p)) [
+        | inl c ↦ counted_right text found c.found reply comes c.comes c.told s e
+        | inr four ↦ absurd (omega (arith, s, four))
+      ]
+  counts_if (replied reply p f (failed s rose front)) network asks files is text file within found comes small =
+      absurd (omega arith)
+  counts_if (replied reply p f (unfinished s front)) network asks files is text file within found comes small =
+      absurd (omega arith)

@@ -10,6 +10,7 @@ use Rattle.amdl_app.specs.Loaded as outcome
 
 abbrev pub asked_for : Command → command.Command
 asked_for (code.Analyse network) = command.Analyse network.now
+asked_for (code.Check network) = command.Check network.now
 asked_for (code.Format network) = command.Format network.now
 
 abbrev pub stopped_by : Stop → outcome.Loaded

@@ -5,12 +5,15 @@ use Rattle.std.specs.Prelude.{◌≡◌, ℕ, List, [], ◌∷◌, Option, None,
 pub data Command : Type 0 where
   -- analyse the network of a file
   Analyse : List ℕ → Command
+  -- check the network of a file
+  Check : List ℕ → Command
   -- print the network of a file in its canonical layout
   Format : List ℕ → Command
 
 -- the words ask for the command
 abbrev pub Asks : List (List ℕ) → Command → Type 0
 Asks words (Analyse network) = words ≡ codes "analyse" ∷ network ∷ []
+Asks words (Check network) = words ≡ codes "check" ∷ network ∷ []
 Asks words (Format network) = words ≡ codes "format" ∷ network ∷ []
 
 -- the words are no row of the table
@@ -32,11 +35,13 @@ network_input name = record { name = name; limit = text_limit }
 -- the files that a command loads, in their order
 abbrev pub inputs_of : Command → List Input
 inputs_of (Analyse network) = network_input network ∷ []
+inputs_of (Check network) = network_input network ∷ []
 inputs_of (Format network) = network_input network ∷ []
 
 -- the name of the file that it stores
 abbrev pub stored_name_of : Command → Option (List ℕ)
 stored_name_of (Analyse network) = None
+stored_name_of (Check network) = None
 stored_name_of (Format network) = None
 
 -- the words ask for a command that loads a file of this name

@@ -3,6 +3,7 @@ pub mod Answer
 pub mod Answered
 pub mod Asked
 pub mod Command
+pub mod Counts
 pub mod Formatting
 pub mod Laws
 pub mod Loaded
@@ -11,3 +12,4 @@ pub mod Promises
 pub mod Reply
 pub mod Report
 pub mod Seen
+pub mod Spelled

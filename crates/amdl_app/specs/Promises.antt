@@ -1,26 +1,33 @@
 -- What a call of the program promises, over the words, what is seen of files and output before and after it, and the
 -- status.
-use Rattle.std.specs.Prelude.{◌≡◌, ◌≢◌, ℕ, ◌≤◌, ◌⊎◌, List, ◌++◌, length, map, Some}
+use Rattle.std.specs.Prelude.{◌≡◌, ◌≢◌, ℕ, ◌≤◌, ◌⊎◌, List, ◌++◌, length, map, Some, Result, Ok, Err}
 use Rattle.std.specs.String.{string_bytes}
 use Rattle.std.specs.declared.string.String.{String}
 use Rattle.std.specs.declared.alloc.Global.{Global}
 use Rattle.std.specs.Io.KnownBytes.{append_known}
-use Rattle.amdl_tree.specs.Layout.{layout_of_tree}
 use Rattle.amdl_tree.specs.declared.tree.Tree.{Tree}
-use Rattle.net_plan.specs.Net.{net}
+use Rattle.net_plan.specs.declared.plan.Plan.{Plan}
+use Rattle.net_plan.specs.Plan.{HasNoBox}
 use Rattle.net_runs.specs.World.{HasNoBadRun}
-use Rattle.narrow_form.specs.NarrowForm.{IsNarrow}
+use Rattle.tree_plan.specs.Net.{net}
+use Rattle.tree_rules.specs.Checked.{IsWellFormed}
+use Rattle.amdl_check.specs.Checking.{IsNetworkOf}
+use Rattle.network_file.specs.Reading.{IsReadAs}
 use Rattle.outside.specs.Faults.{Rose}
 use Rattle.outside.specs.Files.{FileMap, file_of, LacksFile}
 use Rattle.outside.specs.Sink.{AppendsFront}
-use Rattle.plan_text.specs.Messages.{usage_text, missing_text, fault_load_text}
+use Rattle.plan_text.specs.Messages.{usage_text, refused_network, missing_text, fault_load_text}
 use Rattle.plan_text.specs.Prints.{PrintsSafe}
+use Rattle.plan_text.specs.Text.{counts_of}
 use Rattle.plan_text.specs.declared.refusal.NetworkRefusal.{NetworkRefusal}
+use Rattle.plan_text.specs.declared.refusal.NetworkRefusal.TheVariants.{FirstForm}
 use Rattle.amdl_app.specs.Reply.{Reply, refuses}
-use Rattle.amdl_app.specs.Command.{Analyse, Asks, AskNothing, LoadsFile, UseNoFile, text_limit}
-use Rattle.amdl_app.specs.Report.{HasNarrowForm, HasNoBad, HasBad}
+use Rattle.amdl_app.specs.Command.{Analyse, Check, Asks, AskNothing, LoadsFile, UseNoFile, text_limit}
+use Rattle.amdl_app.specs.Counts.{counted}
+use Rattle.amdl_app.specs.Report.{HasNoBad, HasBad}
 use Rattle.amdl_app.specs.Answer.{IsAnswer}
 use Rattle.amdl_app.specs.Seen.{Seen, WhereTold}
+use Rattle.amdl_app.specs.Spelled.{ComesTo}
 
 -- the words as lists of bytes
 abbrev pub spelled : List (String Global) → List (List ℕ)
@@ -118,35 +125,65 @@ CallSaysSafe before after status =
     ⊎ ((old : List ℕ) × (appended : List ℕ) × (before.sink.written ≡ Some old)
     × (after.sink.written ≡ Some (old ++ appended)) × PrintsSafe appended)
 
--- the text has the narrow form, and no derivation of a network that it spells ends in a bad fact
+-- the text is the file of a well-formed tree, and the network that it spells has no box, no derivation that ends in a
+-- bad fact, and no run with a bad event, of any length and in either mode
 pub record IsSafeText (text : List ℕ) : Type 0 where
-  pub form : HasNarrowForm text
-  pub safe : (tree : Tree) → IsNarrow tree → layout_of_tree tree ≡ text → HasNoBad (net tree)
+  pub tree : Tree
+  pub plan : Plan
+  pub file : IsReadAs text (Ok tree)
+  pub network : IsNetworkOf tree plan
+  pub no_box : HasNoBox plan
+  pub no_bad_fact : HasNoBad plan
+  pub no_bad_run : HasNoBadRun plan
 
--- SAFE is said only of files whose network has no derivable bad fact
+-- SAFE is said only of such files
 abbrev pub SafeOnly : List (List ℕ) → Seen → Seen → ℕ → Type 0
 SafeOnly words before after status =
     (network : List ℕ) → Asks words (Analyse network) → CallSaysSafe before after status →
     WhereTold before.files (λ files. (text : List ℕ) × (file_of files network ≡ Some text) × IsSafeText text)
 
--- where SAFE is said, no run of a network that the file spells, of any length and in either mode, has a bad event
-abbrev pub SafeRuns : List (List ℕ) → Seen → Seen → ℕ → Type 0
-SafeRuns words before after status =
-    (network : List ℕ) → Asks words (Analyse network) → CallSaysSafe before after status →
-    WhereTold before.files (λ files.
-    (text : List ℕ) → file_of files network ≡ Some text →
-    (tree : Tree) → IsNarrow tree → layout_of_tree tree ≡ text → HasNoBadRun (net tree))
+-- what the status of `analyse` says of the network that a file spells; the statuses 4 to 6 say nothing of it
+pub record StatusIsRight (plan : Plan) (before after : Seen) (status : ℕ) : Type 0 where
+  pub safe : status ≡ 0 → HasNoBox plan × HasNoBad plan
+  pub alarm : status ≡ 1 → HasNoBox plan × HasBad plan
+  -- a network without boxes isn't refused, and one with a box is refused for its form
+  pub accepted : HasNoBox plan → status ≢ 3
+  pub refused : ¬ HasNoBox plan → status ≤ 3 → (status ≡ 3) × Appends before after (refused_network FirstForm)
 
--- what the status says of the network of a tree
-pub record StatusIsRight (tree : Tree) (status : ℕ) : Type 0 where
-  pub accepted : status ≢ 3
-  pub safe : status ≡ 0 → HasNoBad (net tree)
-  pub alarm : status ≡ 1 → HasBad (net tree)
+-- what `analyse` promises of a text within the limit: a status up to 3 is that of its refusal, or is right of the
+-- network that it spells
+pub record AnalysisIsRight (text : List ℕ) (before after : Seen) (status : ℕ) : Type 0 where
+  pub refused : (refusal : NetworkRefusal) → ComesTo text (Err refusal) → status ≤ 3 →
+      (status ≡ 3) × Appends before after (refused_network refusal)
+  pub analysed : (tree : Tree) (plan : Plan) → IsReadAs text (Ok tree) → IsWellFormed tree.items →
+      net tree ≡ Some plan → StatusIsRight plan before after status
 
--- a file within the limit that has the narrow form isn't refused, is SAFE only where no derivation ends in a bad fact,
--- and is an ALARM only where one does
-abbrev pub SafeIf : List (List ℕ) → Seen → ℕ → Type 0
-SafeIf words before status =
+abbrev pub SafeIf : List (List ℕ) → Seen → Seen → ℕ → Type 0
+SafeIf words before after status =
     (network : List ℕ) → Asks words (Analyse network) → WhereTold before.files (λ files.
     (text : List ℕ) → file_of files network ≡ Some text → length text ≤ text_limit →
-    (tree : Tree) → IsNarrow tree → layout_of_tree tree ≡ text → StatusIsRight tree status)
+    AnalysisIsRight text before after status)
+
+-- the text is the file of a well-formed tree, and the counts of the network that it spells are all that is appended
+pub record IsCountedText (before after : Seen) (text : List ℕ) : Type 0 where
+  pub tree : Tree
+  pub plan : Plan
+  pub file : IsReadAs text (Ok tree)
+  pub network : IsNetworkOf tree plan
+  pub counts : Appends before after (counts_of plan)
+
+-- `check` has status 0 only where the file is so
+abbrev pub CountsOnly : List (List ℕ) → Seen → Seen → ℕ → Type 0
+CountsOnly words before after status =
+    (network : List ℕ) → Asks words (Check network) → status ≡ 0 →
+    WhereTold before.files (λ files.
+    (text : List ℕ) × (file_of files network ≡ Some text) × IsCountedText before after text)
+
+-- and of each file within the limit, what it comes to decides the status, which is 0 or 3, or 4 to 6, and with 0 and 3
+-- what is appended
+abbrev pub CountsIf : List (List ℕ) → Seen → Seen → ℕ → Type 0
+CountsIf words before after status =
+    (network : List ℕ) → Asks words (Check network) → WhereTold before.files (λ files.
+    (text : List ℕ) → file_of files network ≡ Some text → length text ≤ text_limit →
+    (found : Result Plan NetworkRefusal) → ComesTo text found → status ≤ 3 →
+    (status ≡ (counted found).status) × Appends before after (counted found).text)

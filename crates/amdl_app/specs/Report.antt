@@ -1,18 +1,17 @@
 -- The report of a network, and the reply of `analyse` to a text.
-use Rattle.std.specs.Prelude.{◌≡◌, ℕ, List, [], ◌∷◌}
-use Rattle.amdl_tree.specs.Layout.{layout_of_tree}
+use Rattle.std.specs.Prelude.{◌≡◌, ℕ, List, [], ◌∷◌, Result, Ok, Err}
 use Rattle.amdl_tree.specs.Derivation.{IsDerivable}
-use Rattle.amdl_tree.specs.declared.tree.Tree.{Tree}
 use Rattle.net_plan.specs.declared.plan.Plan.{Plan}
 use Rattle.net_plan.specs.declared.fact.Fact.{Fact}
 use Rattle.net_plan.specs.Fact.{ListsExactly}
 use Rattle.net_plan.specs.Follows.{Follows, IsLeast, IsBad}
-use Rattle.net_plan.specs.Net.{net}
-use Rattle.narrow_form.specs.NarrowForm.{IsNarrow}
+use Rattle.net_plan.specs.Plan.{HasNoBox}
 use Rattle.plan_text.specs.Text.{report_of}
+use Rattle.plan_text.specs.declared.refusal.NetworkRefusal.{NetworkRefusal}
 use Rattle.plan_text.specs.declared.refusal.NetworkRefusal.TheVariants.{FirstForm}
 use Rattle.amdl_app.specs.Analysis.{IsBadAmong}
 use Rattle.amdl_app.specs.Reply.{Reply, says, refuses}
+use Rattle.amdl_app.specs.Spelled.{ComesTo}
 
 -- SAFE is status 0, and ALARM is status 1
 abbrev pub status_of : List Fact → ℕ
@@ -35,14 +34,15 @@ HasNoBad plan = (fact : Fact) → IsDerivable (Follows plan) fact → IsBad plan
 abbrev pub HasBad : Plan → Type 0
 HasBad plan = (fact : Fact) × IsDerivable (Follows plan) fact × IsBad plan fact
 
--- the text has the narrow form
-abbrev pub HasNarrowForm : List ℕ → Type 0
-HasNarrowForm text = (tree : Tree) × IsNarrow tree × (layout_of_tree tree ≡ text)
+-- the reply to what the text of a network comes to: its refusal, that of the form where the network has a box, and
+-- else the report
+pub data IsAnalysisOf (found : Result Plan NetworkRefusal) (reply : Reply) : Type 0 where
+  refused : (refusal : NetworkRefusal) → found ≡ Err refusal → reply ≡ refuses refusal → IsAnalysisOf found reply
+  boxed : (plan : Plan) → found ≡ Ok plan → ¬ HasNoBox plan → reply ≡ refuses FirstForm → IsAnalysisOf found reply
+  reported : (plan : Plan) → found ≡ Ok plan → HasNoBox plan → IsReport plan reply → IsAnalysisOf found reply
 
 -- the reply to the text of a network within the limit
-pub data IsAnalysis (text : List ℕ) (reply : Reply) : Type 0 where
-  -- it hasn't the narrow form
-  formless : (HasNarrowForm text → ⊥) → reply ≡ refuses FirstForm → IsAnalysis text reply
-  -- the report of its network
-  reported : (tree : Tree) → IsNarrow tree → layout_of_tree tree ≡ text → IsReport (net tree) reply →
-      IsAnalysis text reply
+pub record IsAnalysis (bytes : List ℕ) (reply : Reply) : Type 0 where
+  pub found : Result Plan NetworkRefusal
+  pub comes : ComesTo bytes found
+  pub analysed : IsAnalysisOf found reply

@@ -1,18 +1,18 @@
 //! The verb `analyse`.
-ghost use Rattle.std.specs.Prelude.{◌≡◌, ◌≤◌, IfOk};
+ghost use Rattle.std.specs.Prelude.{◌≡◌, ◌≤◌, length, Ok, IfOk};
 ghost use Rattle.net_plan.specs.Plan.{HasNoBox};
 ghost use Rattle.amdl_app.specs.Answer.{IsCommandReply};
 ghost use Rattle.amdl_app.specs.Answered.{reply_of};
 ghost use Rattle.amdl_app.specs.Command.{Analyse};
 ghost use Rattle.amdl_app.specs.Loaded.{MayCome};
-ghost use Rattle.amdl_app.specs.Report.{IsAnalysis, IsReport, status_of};
+ghost use Rattle.amdl_app.specs.Report.{IsAnalysis, IsAnalysisOf, IsReport, status_of};
 ghost use Rattle.amdl_app.specs.Seen.{files_seen};
 
 use crate::answer::{Answer, refusal_answer};
 use crate::facts::{bad_facts, derivable_facts};
 use crate::load::{Loaded, load_network, stop_answer};
+use crate::spelling::network_of;
 use amdl_tree::NoMemory;
-use narrow_form::{narrow_has_no_box, read_narrow};
 use net_plan::{Fact, Network};
 use outside::Files;
 use plan_text::{NetworkRefusal, put_report};
@@ -33,15 +33,26 @@ pub fn analyse<F: Files>(alloc: Global, network: &str, files: &mut F) -> Result<
     }
 }
 
-// Analyses the network that a text spells.
+// Analyses the network that a text within the limit spells.
 fn analyse_text(alloc: Global, text: &[u8]) -> Result<Answer, NoMemory>
+    requires { length text.now ≤ 4194304 }
     ensures { IfOk result (λ answer. IsAnalysis text.now (reply_of answer)) }
 {
-    narrow_has_no_box();
-    match read_narrow(alloc, text)? {
-        Some(network) => report(alloc, &network),
-        None => refusal_answer(alloc, NetworkRefusal::FirstForm),
+    let found = network_of(alloc, text)?;
+    match found {
+        Ok(network) => analyse_network(alloc, &network),
+        Err(refusal) => refusal_answer(alloc, refusal),
     }
+}
+
+// Analyses a network, and refuses one with a box.
+fn analyse_network(alloc: Global, network: &Network) -> Result<Answer, NoMemory>
+    ensures { IfOk result (λ answer. IsAnalysisOf (Ok network.now) (reply_of answer)) }
+{
+    if network.boxes() > 0 {
+        return refusal_answer(alloc, NetworkRefusal::FirstForm);
+    }
+    report(alloc, network)
 }
 
 // The report of a network without boxes: status 0 where no derivable fact is bad, and else 1.

@@ -9,6 +9,8 @@ ghost use Rattle.amdl_app.specs.Asked.{asked_for};
 pub enum Command<'a> {
     /// Analyse the network of this file.
     Analyse(&'a str),
+    /// Check the network of this file.
+    Check(&'a str),
     /// Write the network of this file in its canonical layout.
     Format(&'a str),
 }
@@ -32,6 +34,9 @@ fn command_on<'a>(verb: &str, network: &'a str) -> Option<Command<'a>>
 {
     if verb == "analyse" {
         return Some(Command::Analyse(network));
+    }
+    if verb == "check" {
+        return Some(Command::Check(network));
     }
     if verb == "format" {
         return Some(Command::Format(network));

@@ -5,17 +5,17 @@ ghost use Rattle.amdl_tree.specs.WellBuilt.{IsShaped};
 ghost use Rattle.amdl_app.specs.Answer.{IsCommandReply};
 ghost use Rattle.amdl_app.specs.Answered.{reply_of};
 ghost use Rattle.amdl_app.specs.Command.{Format};
-ghost use Rattle.amdl_app.specs.Formatting.{IsFormatting, refusal_of};
+ghost use Rattle.amdl_app.specs.Formatting.{IsFormatting};
 ghost use Rattle.amdl_app.specs.Loaded.{MayCome};
 ghost use Rattle.amdl_app.specs.Reply.{says};
 ghost use Rattle.amdl_app.specs.Seen.{files_seen};
 
 use crate::answer::{Answer, refusal_answer};
 use crate::load::{Loaded, load_network, stop_answer};
+use crate::spelling::network_refusal;
 use amdl_tree::{NoMemory, Tree};
-use network_file::{ReadRefusal, read, write};
+use network_file::{read, write};
 use outside::Files;
-use plan_text::NetworkRefusal;
 use std::alloc::Global;
 
 /// Loads the file of a network and writes the network in its canonical layout.
@@ -53,17 +53,4 @@ fn layout_answer(alloc: Global, tree: &Tree) -> Result<Answer, NoMemory>
     let mut text = Vec::new(alloc);
     write(tree, &mut text)?;
     Ok(Answer { status: 0, text })
-}
-
-// Why a text that is no network file is refused.
-fn network_refusal(refusal: ReadRefusal) -> NetworkRefusal
-    ensures { result ≡ refusal_of refusal }
-{
-    match refusal {
-        ReadRefusal::BadByte(at) => NetworkRefusal::BadByte(at),
-        ReadRefusal::WordTooLong(at) => NetworkRefusal::WordTooLong(at),
-        ReadRefusal::TooManyTokens => NetworkRefusal::TooManyTokens,
-        ReadRefusal::Syntax(at) => NetworkRefusal::Syntax(at),
-        ReadRefusal::Deep(at) => NetworkRefusal::Deep(at),
-    }
 }

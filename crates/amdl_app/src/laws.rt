@@ -1,19 +1,19 @@
 //! Laws over the definitions.
 ghost use Rattle.amdl_app.specs.Laws.{ReplyIsUnique, AnswerIsUnique, StoresItsFile};
 
-use narrow_form::narrow_layout_is_one_to_one;
 use net_plan::laws::{least_is_unique, rising_is_unique};
 use network_file::one_reading;
+use tree_rules::one_answer;
 
 /// No command has two replies to the same outcomes of its loads, and no words and files have two answers.
 pub fn answer_is_unique()
     ensures reply { ReplyIsUnique }
     ensures answer { AnswerIsUnique }
 {
-    narrow_layout_is_one_to_one();
+    one_reading();
+    one_answer();
     rising_is_unique();
     least_is_unique();
-    one_reading();
 }
 
 /// A reply stores a file under the name of its command alone.

@@ -3,6 +3,7 @@
 
 mod analyse;
 mod answer;
+mod checking;
 mod command;
 mod facts;
 mod formatting;
@@ -10,5 +11,6 @@ pub mod laws;
 mod load;
 mod output;
 mod program;
+mod spelling;
 
 pub use program::run;

@@ -8,28 +8,30 @@ ghost use Rattle.amdl_app.specs.Loaded.{MayCome};
 ghost use Rattle.amdl_app.specs.Outcome.{IsCall, IsPutOut};
 ghost use Rattle.amdl_app.specs.Promises.{spelled, AnswersUpToThree, AnswersUnhindered, UnusedIsQuiet, UsageIsRight};
 ghost use Rattle.amdl_app.specs.Promises.{RefusalIsRight, FileFaultIsRight, SinkFaultIsRight, CutsAreFronts, SafeOnly};
-ghost use Rattle.amdl_app.specs.Promises.{SafeRuns, SafeIf};
+ghost use Rattle.amdl_app.specs.Promises.{SafeIf, CountsOnly, CountsIf};
 ghost use Rattle.amdl_app.specs.Seen.{both_seen, files_seen, sink_seen};
 
 use crate::analyse::analyse;
 use crate::answer::{Answer, usage_answer};
+use crate::checking::check_file;
 use crate::command::{Command, command_of};
 use crate::formatting::format;
 use crate::laws::answer_is_unique;
 use crate::output::put_text;
 use amdl_tree::NoMemory;
-use narrow_form::narrow_layout_is_one_to_one;
 use net_runs::laws::safe_network_runs_safely;
+use network_file::one_reading;
 use outside::{Files, Sink, SinkFault};
 use plan_text::laws::{messages_are_not_safe, safe_is_told};
 use std::alloc::Global;
+use tree_rules::one_answer;
 
 /// Does all that the program does for the words after its name, and answers its exit status.
 ///
 /// Status 0: SAFE, or done; 1: ALARM; 2: the words are no row of the table; 3: a text that was loaded is refused; 4: a
 /// file is missing or loading it failed; 5: putting the text out failed; 6: want of memory. With the statuses 0 to 4
 /// the whole text was appended to the sink, with 5 and 6 a front of it. It takes time linear in the text of the
-/// network, and for `analyse` in its packets.
+/// network; `analyse` and `check` also take what checking its tree takes, and `analyse` the hosts times the packets.
 pub fn run<F: Files, S: Sink>(alloc: Global, words: &[String], files: &mut F, out: &mut S) -> u8
     ensures status { result ≤ 6 }
 
@@ -74,14 +76,21 @@ pub fn run<F: Files, S: Sink>(alloc: Global, words: &[String], files: &mut F, ou
     ensures safe_only { SafeOnly (spelled words.now)
         (both_seen (files_seen F.told F.faults files.old) (sink_seen S.written S.faults out.old))
         (both_seen (files_seen F.told F.faults files.new) (sink_seen S.written S.faults out.new)) result }
-    ensures safe_runs { SafeRuns (spelled words.now)
+    ensures safe_if { SafeIf (spelled words.now)
         (both_seen (files_seen F.told F.faults files.old) (sink_seen S.written S.faults out.old))
         (both_seen (files_seen F.told F.faults files.new) (sink_seen S.written S.faults out.new)) result }
-    ensures safe_if { SafeIf (spelled words.now)
-        (both_seen (files_seen F.told F.faults files.old) (sink_seen S.written S.faults out.old)) result }
+
+    // What the counts of a network say.
+    ensures counts_only { CountsOnly (spelled words.now)
+        (both_seen (files_seen F.told F.faults files.old) (sink_seen S.written S.faults out.old))
+        (both_seen (files_seen F.told F.faults files.new) (sink_seen S.written S.faults out.new)) result }
+    ensures counts_if { CountsIf (spelled words.now)
+        (both_seen (files_seen F.told F.faults files.old) (sink_seen S.written S.faults out.old))
+        (both_seen (files_seen F.told F.faults files.new) (sink_seen S.written S.faults out.new)) result }
 {
     answer_is_unique();
-    narrow_layout_is_one_to_one();
+    one_reading();
+    one_answer();
     safe_is_told();
     messages_are_not_safe();
     safe_network_runs_safely();
@@ -134,6 +143,7 @@ fn reply_to<F: Files>(
 {
     match command {
         Command::Analyse(network) => analyse(alloc, network, files),
+        Command::Check(network) => check_file(alloc, network, files),
         Command::Format(network) => format(alloc, network, files),
     }
 }

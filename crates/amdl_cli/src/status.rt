@@ -55,8 +55,9 @@ mod tests {
     const NETWORK: &[u8] =
         b"network x;\ntype T = {a};\nfield f : T;\nhost p;\nhost q;\nlink p -- q;\nsends p : true;\nforbid p : true;\n";
 
-    const CALLS: [(&str, &[&str], u8); 7] = [
+    const CALLS: [(&str, &[&str], u8); 8] = [
         ("SAFE", &["amdl", "analyse", "net"], 0),
+        ("counts", &["amdl", "check", "net"], 0),
         ("a name that is a verb", &["analyse", "analyse", "net"], 0),
         ("no words", &["amdl"], 2),
         ("a word too few", &["amdl", "analyse"], 2),

@@ -1,29 +1,28 @@
-use Rattle.std.proofs.Common.{◌≢◌, Option, MatchOption, sym, subst}
-use Rattle.amdl_tree.specs.Layout.{layout_of_tree}
-use Rattle.amdl_tree.specs.declared.tree.Tree.{Tree}
-use Rattle.net_plan.specs.declared.plan.Plan.{Plan}
-use Rattle.net_plan.specs.Plan.{HasNoBox}
-use Rattle.narrow_form.specs.NarrowForm.{IsNarrow, IsNetworkOf}
+use Rattle.std.proofs.Common.{◌≡◌, Ok, Err, refl, subst}
 use Rattle.amdl_app.specs.Answered.{reply_of}
-use Rattle.amdl_app.specs.Report.{IsReport, IsAnalysis, reported}
+use Rattle.amdl_app.specs.Reply.{refuses}
+use Rattle.amdl_app.specs.Report.{IsAnalysis, IsAnalysisOf, refused}
+use Rattle.amdl_app.specs.Spelled.{ComesTo}
 use Rattle.amdl_app.proofs.Words.{ok_map}
 use Rattle.amdl_app.proofs.analyse.analyse_text.Goals as goal
 
-pub returns-in-Some : goal.returns-in-Some
-returns-in-Some c =
-    let read : IsNetworkOf c.args.text.now c.in-Some.network =
-    subst (λ (found : Option Plan). MatchOption found
-    ((tree : Tree) → IsNarrow tree → layout_of_tree tree ≢ c.args.text.now) (IsNetworkOf c.args.text.now))
-    c.in-Some.is c.in_ok-network.ensures in
-    ok_map c.report.result (λ answer. IsReport c.in-Some.network (reply_of answer))
+pub returns-in-Ok : goal.returns-in-Ok
+returns-in-Ok c =
+    let comes : ComesTo c.args.text.now (Ok c.in-Ok.network) =
+    subst (ComesTo c.args.text.now) c.in-Ok.is c.in_ok-found.ensures in
+    ok_map c.analyse_network.result (λ answer. IsAnalysisOf (Ok c.in-Ok.network) (reply_of answer))
     (λ answer. IsAnalysis c.args.text.now (reply_of answer))
-    (λ answer report. reported read.0 read.1 read.2
-    (subst (λ (plan : Plan). IsReport plan (reply_of answer)) read.3 report)) c.report.ensures
+    (λ answer analysed. record { found = Ok c.in-Ok.network; comes = comes; analysed = analysed })
+    c.analyse_network.ensures
 
-pub report-requires : goal.report-requires
-report-requires c =
-    let read : IsNetworkOf c.args.text.now c.in-Some.network =
-    subst (λ (found : Option Plan). MatchOption found
-    ((tree : Tree) → IsNarrow tree → layout_of_tree tree ≢ c.args.text.now) (IsNetworkOf c.args.text.now))
-    c.in-Some.is c.in_ok-network.ensures in
-    subst HasNoBox (sym read.3) (c.narrow_has_no_box.ensures read.0 read.1)
+pub returns-in-Err : goal.returns-in-Err
+returns-in-Err c =
+    let comes : ComesTo c.args.text.now (Err c.in-Err.refusal) =
+    subst (ComesTo c.args.text.now) c.in-Err.is c.in_ok-found.ensures in
+    ok_map c.refusal_answer.result (λ answer. reply_of answer ≡ refuses c.in-Err.refusal)
+    (λ answer. IsAnalysis c.args.text.now (reply_of answer))
+    (λ answer told. record {
+      found = Err c.in-Err.refusal;
+      comes = comes;
+      analysed = refused c.in-Err.refusal refl told;
+    }) c.refusal_answer.ensures

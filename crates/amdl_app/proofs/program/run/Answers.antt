@@ -2,7 +2,7 @@ use Rattle.amdl_app.specs.Promises.{spelled}
 use Rattle.amdl_app.specs.Seen.{both_seen, files_seen, sink_seen}
 use Rattle.amdl_app.proofs.PromiseLemmas.{status_in_range, answers_up_to_three, answers_unhindered, sink_fault_is_right}
 use Rattle.amdl_app.proofs.PromiseLemmas.{usage_is_right, refusal_is_right, file_fault_is_right, cuts_are_fronts}
-use Rattle.amdl_app.proofs.SafeLemmas.{safe_only, safe_runs, safe_if}
+use Rattle.amdl_app.proofs.SafeLemmas.{safe_only, safe_if, counts_only, counts_if}
 use Rattle.amdl_app.proofs.program.run.Goals as goal
 
 pub returns-clause-status : goal.returns-clause-status
@@ -84,18 +84,8 @@ returns-clause-safe_only g c =
     (sink_seen g.S.Sink.written g.S.Sink.faults c.args.out.now))
     (both_seen (files_seen g.F.Files.told g.F.Files.faults c.perform.new.files)
     (sink_seen g.S.Sink.written g.S.Sink.faults c.perform.new.out))
-    c.perform.result c.safe_is_told.ensures c.messages_are_not_safe.ensures c.narrow_layout_is_one_to_one.ensures
+    c.perform.result c.safe_network_runs_safely.ensures c.safe_is_told.ensures c.messages_are_not_safe.ensures
     c.perform.ensures.call
-
-pub returns-clause-safe_runs : goal.returns-clause-safe_runs
-returns-clause-safe_runs g c =
-    safe_runs (spelled c.args.words.now)
-    (both_seen (files_seen g.F.Files.told g.F.Files.faults c.args.files.now)
-    (sink_seen g.S.Sink.written g.S.Sink.faults c.args.out.now))
-    (both_seen (files_seen g.F.Files.told g.F.Files.faults c.perform.new.files)
-    (sink_seen g.S.Sink.written g.S.Sink.faults c.perform.new.out))
-    c.perform.result c.safe_is_told.ensures c.messages_are_not_safe.ensures c.narrow_layout_is_one_to_one.ensures
-    c.safe_network_runs_safely.ensures c.perform.ensures.call
 
 pub returns-clause-safe_if : goal.returns-clause-safe_if
 returns-clause-safe_if g c =
@@ -104,5 +94,22 @@ returns-clause-safe_if g c =
     (sink_seen g.S.Sink.written g.S.Sink.faults c.args.out.now))
     (both_seen (files_seen g.F.Files.told g.F.Files.faults c.perform.new.files)
     (sink_seen g.S.Sink.written g.S.Sink.faults c.perform.new.out))
-    c.perform.result c.safe_is_told.ensures c.messages_are_not_safe.ensures c.narrow_layout_is_one_to_one.ensures
-    c.perform.ensures.call
+    c.perform.result c.one_reading.ensures c.one_answer.ensures c.perform.ensures.call
+
+pub returns-clause-counts_only : goal.returns-clause-counts_only
+returns-clause-counts_only g c =
+    counts_only (spelled c.args.words.now)
+    (both_seen (files_seen g.F.Files.told g.F.Files.faults c.args.files.now)
+    (sink_seen g.S.Sink.written g.S.Sink.faults c.args.out.now))
+    (both_seen (files_seen g.F.Files.told g.F.Files.faults c.perform.new.files)
+    (sink_seen g.S.Sink.written g.S.Sink.faults c.perform.new.out))
+    c.perform.result c.one_reading.ensures c.one_answer.ensures c.perform.ensures.call
+
+pub returns-clause-counts_if : goal.returns-clause-counts_if
+returns-clause-counts_if g c =
+    counts_if (spelled c.args.words.now)
+    (both_seen (files_seen g.F.Files.told g.F.Files.faults c.args.files.now)
+    (sink_seen g.S.Sink.written g.S.Sink.faults c.args.out.now))
+    (both_seen (files_seen g.F.Files.told g.F.Files.faults c.perform.new.files)
+    (sink_seen g.S.Sink.written g.S.Sink.faults c.perform.new.out))
+    c.perform.result c.one_reading.ensures c.one_answer.ensures c.perform.ensures.call
