@@ -1,9 +1,8 @@
 //! `analyse` over files that are sure, and over the real ones.
-use crate::networks::WIRE;
+use crate::networks::{ALL, WIRE};
 use crate::texts::{SAFE_WIRE, analyse, analysis_of, full, misses, replies};
 use amdl_app::run;
 use outside::{HostFiles, HostSink, SureFiles, SureSink};
-use std::alloc::Global;
 use std::fs;
 use std::test::Fail;
 
@@ -40,7 +39,7 @@ fn no_words(rt: HostRuntime) {
     let mut out = SureSink::new(rt.alloc());
     let status = run(rt.alloc(), &[], &mut files, &mut out);
     assert!(rt; status == 2);
-    let usage = b"usage: amdl VERB WORD [WORD]\nverbs: analyse format\n".as_slice();
+    let usage = b"usage: amdl VERB WORD [WORD]\nverbs: analyse check format\n".as_slice();
     assert!(rt; out.bytes() == usage);
 }
 
@@ -60,19 +59,20 @@ fn each_packet_is_bad(rt: HostRuntime) -> Result<(), Fail> {
     Ok(())
 }
 
-const REFUSED: &[u8] = b"refused network FirstForm\n";
-
-// Whether the network of so many values and fields is refused.
-fn has_no_form(alloc: Global, values: u32, fields: u32) -> Result<bool, Fail> {
-    let text = full(alloc, values, fields)?;
-    replies(alloc, "analyse", text.as_bytes(), 3, REFUSED)
-}
-
 #[test]
-fn the_form_has_limits(rt: HostRuntime) -> Result<(), Fail> {
-    for (values, fields) in &[(17, 1), (1, 5), (16, 5)] {
-        let refused = has_no_form(rt.alloc(), *values, *fields)?;
-        assert!(rt; refused, "{values} values, {fields} fields");
+fn networks_with_boxes(rt: HostRuntime) -> Result<(), Fail> {
+    for text in &ALL {
+        if *text == WIRE {
+            continue;
+        }
+        let refused = replies(
+            rt.alloc(),
+            "analyse",
+            text.as_bytes(),
+            3,
+            b"refused network FirstForm\n",
+        )?;
+        assert!(rt; refused, "{text}");
     }
     Ok(())
 }
@@ -86,7 +86,7 @@ const NAMES: [(&str, u8, &[u8]); 2] = [
     (
         "network abcdefghijklmnopqrstuvwxy;\ntype T = {v};\nfield f : T;\nhost p;\nhost q;\nlink q -- p;\nsends q : true;\nforbid q : f = v;\n",
         3,
-        REFUSED,
+        b"refused network byte 8 WordTooLong\n",
     ),
 ];
 

@@ -10,8 +10,15 @@ use std::test::Fail;
 const ALARM_REPORT: &str =
     "network wire hosts 2 boxes 0 packets 4\nfacts out 2 state 0 abort 0\nALARM 1\ndeliver q 1 from p : src = a, dst = b\n";
 
+const COUNTS: &str =
+    "network wire hosts 2 boxes 0 packets 4\ntypes 1 fields 2 classes 0 links 1\nends 2 cells 8\n";
+
 /// Each verb with how many files it loads, and its status and text on the wire network.
-const VERBS: [(&str, u32, u8, &str); 2] = [("analyse", 1, 1, ALARM_REPORT), ("format", 1, 0, WIRE)];
+const VERBS: [(&str, u32, u8, &str); 3] = [
+    ("analyse", 1, 1, ALARM_REPORT),
+    ("check", 1, 0, COUNTS),
+    ("format", 1, 0, WIRE),
+];
 
 // The files of a test: one network.
 fn files_with(alloc: Global, text: &str) -> Result<MemoryFiles, NoMemory> {

@@ -4,14 +4,22 @@
 #[cfg(test)]
 mod analyse;
 #[cfg(test)]
+mod checking;
+#[cfg(test)]
 mod faults;
 #[cfg(test)]
 mod formatting;
 #[cfg(test)]
-mod narrow_texts;
+mod limits;
 #[cfg(test)]
 mod networks;
 #[cfg(test)]
+mod pairs;
+#[cfg(test)]
+mod plain_texts;
+#[cfg(test)]
 mod refusals;
+#[cfg(test)]
+mod rules;
 #[cfg(test)]
 mod texts;

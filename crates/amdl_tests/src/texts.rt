@@ -85,6 +85,33 @@ pub(crate) fn replies(
     Ok(answer == status && out.bytes() == bytes)
 }
 
+/// Whether `check` and `analyse` refuse a text at this item by this rule.
+pub(crate) fn refuses(alloc: Global, text: &str, item: u32, rule: &str) -> Result<bool, Fail> {
+    let line = format!(in alloc; "refused network item {item} {rule}\n")?;
+    let checked = replies(alloc, "check", text.as_bytes(), 3, line.as_bytes())?;
+    Ok(checked && replies(alloc, "analyse", text.as_bytes(), 3, line.as_bytes())?)
+}
+
+/// Appends a piece so many times, with its number in place of each `@`.
+pub(crate) fn put_pieces(
+    alloc: Global,
+    text: &mut String,
+    piece: &str,
+    count: u32,
+) -> Result<(), AllocError> {
+    for number in 0..count {
+        let digits = format!(in alloc; "{number}")?;
+        for letter in piece.chars() {
+            if letter == '@' {
+                text.push_str(digits.as_str())?;
+            } else {
+                text.push(letter)?;
+            }
+        }
+    }
+    Ok(())
+}
+
 /// Whether the verb over a file that isn't there has status 4 and says so.
 pub(crate) fn misses(alloc: Global, verb: &str) -> Result<bool, Fail> {
     let mut files = SureFiles::new(alloc);
