@@ -5,7 +5,7 @@ use Rattle.std.proofs.Common.{inr, arith, lit<, lit≤}
 use Rattle.std.specs.Prelude.{nat_eq, slice_index, sum_by}
 use Rattle.std.specs.List.{All, Any, find, list_all}
 use Rattle.std.specs.List.Sorted.{IsStrictlySortedBy}
-use Rattle.std.specs.Cmp.Lexicographic.{bytes_decides}
+use Rattle.std.specs.Cmp.Lexicographic.{pointwise, bytes_decides}
 use Rattle.std.proofs.lemmas.Bool.{and_parts, not-true, eqb-false}
 use Rattle.std.proofs.lemmas.Bool.Decides.{not_from_Decides}
 use Rattle.std.proofs.lemmas.List.Elements.{All-nil, All-cons, All-from_recursion}
@@ -30,7 +30,6 @@ use Rattle.net_plan.specs.declared.plan.BoxPlan.{BoxPlan}
 use Rattle.net_plan.specs.declared.plan.LinkPlan.{LinkPlan}
 use Rattle.net_plan.specs.declared.fact.Place.{Place}
 use Rattle.net_plan.specs.declared.fact.Place.TheVariants.{Host, Port}
-use Rattle.net_plan.specs.Net.{same_name}
 use Rattle.net_plan.specs.Plan.{Forbids, tuples_of, surroundings_of}
 use Rattle.net_plan.specs.Sound.{AreApart, IsKind, IsField, HasHeaders, terms_of, nodes_of, HasNamesApart, IsRelation}
 use Rattle.net_plan.specs.Sound.{IsClass, IsEntry, IsBox, HasClasses, IsPattern, IsHost, IsLink, linked_ends, IsWired}
@@ -245,6 +244,9 @@ apart_by same tells (x ∷ xs) e =
     let parts : (list_all (λ y. not (same x y)) xs ≡ true) × (are_apart same xs ≡ true) =
     and_parts (list_all (λ y. not (same x y)) xs) (are_apart same xs) e in
     AllPairs-cons (λ one two. one ≢ two) x xs (differ_by same tells x xs parts.0) (apart_by same tells xs parts.1)
+
+abbrev same_name : List ℕ → List ℕ → Bool
+same_name one two = pointwise nat_eq one two
 
 names_tell : Tells same_name
 names_tell one two e = not_from_Decides (same_name one two) (bytes_decides one two) e

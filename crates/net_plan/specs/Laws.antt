@@ -1,14 +1,12 @@
--- Laws over the definitions, and the wire network by hand.
+-- Laws over the definitions, and the plan of a wire by hand.
 use Rattle.std.specs.Prelude.{◌≡◌, ℕ, ◌+◌, ◌<◌, List, [], ◌∷◌, Some, None, ◌↔◌, codes, length}
 use Rattle.std.specs.List.{Contains}
 use Rattle.amdl_tree.specs.Derivation.{IsDerivable}
-use Rattle.amdl_tree.specs.Example.{wire}
 use Rattle.net_plan.specs.declared.plan.Plan.{Plan}
 use Rattle.net_plan.specs.declared.fact.Fact.{Fact}
 use Rattle.net_plan.specs.declared.fact.Place.TheVariants.{Host, Port}
 use Rattle.net_plan.specs.Fact.{Precedes, IsRising}
 use Rattle.net_plan.specs.Follows.{Starts, Follows, IsLeast}
-use Rattle.net_plan.specs.Net.{net}
 use Rattle.net_plan.specs.Plan.{boxes_of, box_at, ports_of, HasNoBox}
 use Rattle.net_plan.specs.Ends.{IsEndAt, IsLinked, partner_of}
 use Rattle.net_plan.specs.Cells.{IsInRange, cell_of, cells_of}
@@ -86,6 +84,3 @@ wire_plan = record {
   boxes = [];
   links = record { one = 0; two = 1 } ∷ [];
 }
-
-abbrev pub WireNetwork : Type 0
-WireNetwork = net wire ≡ wire_plan

@@ -4,7 +4,6 @@ pub mod Fact
 pub mod Follows
 pub mod Kept
 pub mod Laws
-pub mod Net
 pub mod Plan
 pub mod Reading
 pub mod Sound

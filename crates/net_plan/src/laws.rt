@@ -1,6 +1,6 @@
 //! Laws over the definitions, each the contract of a function that does nothing.
 ghost use Rattle.net_plan.specs.Laws.{RisingIsUnique, LeastIsUnique, PartnerIsUnique, PartnerIsLinked, DerivableIsSent};
-ghost use Rattle.net_plan.specs.Laws.{HostEnds, PortEnds, CellsAreFacts, WireNetwork};
+ghost use Rattle.net_plan.specs.Laws.{HostEnds, PortEnds, CellsAreFacts};
 
 /// A rising list of facts is settled by its members.
 pub fn rising_is_unique()
@@ -40,9 +40,4 @@ pub fn port_ends()
 /// Facts in range and cells are one to one, and in the same order.
 pub fn cells_are_facts()
     ensures { CellsAreFacts }
-{}
-
-/// The plan of two hosts on a wire.
-pub fn net_of_wire()
-    ensures { WireNetwork }
 {}

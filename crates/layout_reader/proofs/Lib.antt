@@ -1,9 +1,0 @@
-pub mod Ends
-pub mod Frames
-pub mod ItemForms
-pub mod Lacking
-pub mod Parting
-pub mod Patterns
-pub mod Pieces
-pub mod Runs
-pub mod TreeForms

@@ -1,6 +1,0 @@
-mod FlatLemmas
-mod NameLemmas
-mod ItemLemmas
-mod NetLemmas
-mod SoundLemmas
-mod ExampleLemmas
