@@ -23,18 +23,18 @@ use Rattle.box_executions.proofs.RangeLemmas.{some_inside, pick_opened, entry_is
 use Rattle.box_executions.proofs.KeepLemmas.{Keeps, body_keeps, branches_keep, with_fits, without_fits}
 
 -- from these contents there is an execution, whatever choices it leaves
-abbrev From : Behaviour → List Entry → Type 0
+abbrev pub From : Behaviour → List Entry → Type 0
 From runs contents =
     (used : List ℕ) × (outcome : Outcome) × ((left : List ℕ) → runs contents (used ++ left) outcome left)
 
-abbrev Total : List (List ℕ) → Behaviour → Type 0
+abbrev pub Total : List (List ℕ) → Behaviour → Type 0
 Total relations runs = (contents : List Entry) → AreContents relations contents → From runs contents
 
-abbrev Decided : Type 0 → Type 0
+abbrev pub Decided : Type 0 → Type 0
 Decided P = P ⊎ (P → ⊥)
 
 -- the guard of the branch of this number is true
-abbrev IsTrueAt : Branches → Environment → List Entry → ℕ → Type 0
+abbrev pub IsTrueAt : Branches → Environment → List Entry → ℕ → Type 0
 IsTrueAt NoBranch env contents number = ⊥
 IsTrueAt (OneBranch guard body more) env contents zero = IsSatisfied env contents guard
 IsTrueAt (OneBranch guard body more) env contents (suc number) = IsTrueAt more env contents number
@@ -62,7 +62,7 @@ member_decided law contents entry = by (holds_entry contents entry) refl
     by true e = inl ((law contents entry).0 e)
     by false e = inr (λ h. let held : holds_entry contents entry ≡ true = (law contents entry).1 h in cc)
 
-decide : HeldIsMember → (env : Environment) (contents : List Entry) (formula : Formula) →
+pub decide : HeldIsMember → (env : Environment) (contents : List Entry) (formula : Formula) →
     Decided (IsSatisfied env contents formula)
 decide law env contents Truth = inl tt
 decide law env contents (Holds query) = member_decided law contents (entry_in env query)
@@ -75,7 +75,7 @@ decide law env contents Every = inl tt
 decide law env contents (Either one two) = either (decide law env contents one) (decide law env contents two)
 decide law env contents Neither = inr (λ h. h)
 
-find : HeldIsMember → (env : Environment) (contents : List Entry) (branches : Branches) →
+pub find : HeldIsMember → (env : Environment) (contents : List Entry) (branches : Branches) →
     NoGuardIsTrue env contents branches ⊎ ((number : ℕ) × IsTrueAt branches env contents number)
 find law env contents NoBranch = inl tt
 find law env contents (OneBranch guard body more) = by (decide law env contents guard) (find law env contents more)
@@ -125,7 +125,7 @@ module _ (ports : ℕ) (headers : List ℕ) (relations : List (List ℕ)) where
 module _ (below : FieldsAreBelowSizes) (free : FieldsAreFree) (held : HeldIsMember) (with_rising : WithKeepsRising)
     (without_rising : WithoutKeepsRising) (around : Surroundings) where
   -- the block of the first value
-  size_some : (picks : List ℕ) (env : Environment) (kind values : ℕ) → IsEnvironment around picks env →
+  pub size_some : (picks : List ℕ) (env : Environment) (kind values : ℕ) → IsEnvironment around picks env →
       slice_get around.sizes kind ≡ Some values → 0 < values
   size_some picks env kind values is e = first around.sizes kind e is.kinds
     where
@@ -142,7 +142,7 @@ module _ (below : FieldsAreBelowSizes) (free : FieldsAreFree) (held : HeldIsMemb
   Block body env values value contents choices outcome left =
       (value < values) × BodyRuns body (with_pick env value) contents choices outcome left
 
-  block_keeps : (body : Body) (env : Environment) (picks : List ℕ) (values value : ℕ) →
+  pub block_keeps : (body : Body) (env : Environment) (picks : List ℕ) (values value : ℕ) →
       IsEnvironment around picks env → Fits around body (picks ++ values ∷ []) →
       Keeps around.ports env.headers env.relations (Block body env values value)
   block_keeps body env picks values value is fits contents choices left outcome are runs =
@@ -150,7 +150,7 @@ module _ (below : FieldsAreBelowSizes) (free : FieldsAreFree) (held : HeldIsMemb
       (pick_opened around picks env values value is runs.0) fits contents choices left outcome are runs.1
 
   mutual
-    body_total : (body : Body) (env : Environment) (picks : List ℕ) → IsEnvironment around picks env →
+    pub body_total : (body : Body) (env : Environment) (picks : List ℕ) → IsEnvironment around picks env →
         Fits around body picks → Total env.relations (BodyRuns body env)
     body_total Stop env picks is fits contents are = ([], Done contents [], λ left. (refl, refl))
     body_total (Writes query true rest) env picks is fits contents are =
@@ -193,7 +193,7 @@ module _ (below : FieldsAreBelowSizes) (free : FieldsAreFree) (held : HeldIsMemb
         (inner.0, inner.1, λ left. (less, inner.2 left)) in
         (0 ∷ chosen.0, chosen.1, chosen.2)
 
-    branch_total : (branches : Branches) (env : Environment) (picks : List ℕ) → IsEnvironment around picks env →
+    pub branch_total : (branches : Branches) (env : Environment) (picks : List ℕ) → IsEnvironment around picks env →
         BranchesFit around branches picks → (number : ℕ) (contents : List Entry) →
         AreContents env.relations contents → IsTrueAt branches env contents number →
         From (BranchRuns branches env number) contents

@@ -9,7 +9,7 @@ use Rattle.box_executions.specs.Execution.{Outcome, Done, Aborted, Behaviour, In
 use Rattle.box_executions.specs.Execution.{BranchRuns}
 use Rattle.box_executions.specs.Laws.{UsesFront, ExecutionUsesFront}
 
-abbrev Fronts : Behaviour → Type 0
+abbrev pub Fronts : Behaviour → Type 0
 Fronts runs = (contents : List Entry) (choices left : List ℕ) (outcome : Outcome) →
     runs contents choices outcome left → UsesFront runs contents choices outcome left
 
@@ -56,7 +56,7 @@ nothing_used : (runs : Behaviour) (contents : List Entry) (choices left : List �
 nothing_used runs contents choices left outcome same others = record { used = []; stood = sym same; others = others }
 
 mutual
-  body_front : (body : Body) (env : Environment) → Fronts (BodyRuns body env)
+  pub body_front : (body : Body) (env : Environment) → Fronts (BodyRuns body env)
   body_front Stop env contents choices left outcome runs =
       nothing_used (BodyRuns Stop env) contents choices left outcome runs.1 (λ other. (runs.0, refl))
   body_front (Writes query true rest) env contents choices left outcome runs =
@@ -98,7 +98,7 @@ mutual
       record { used = front.used; stood = front.stood; others = λ other. (x.0, front.others other) })
       (body_front rest env) contents choices left outcome uses
 
-  branch_front : (branches : Branches) (env : Environment) (number : ℕ) → Fronts (BranchRuns branches env number)
+  pub branch_front : (branches : Branches) (env : Environment) (number : ℕ) → Fronts (BranchRuns branches env number)
   branch_front NoBranch env number contents choices left outcome runs = absurd runs
   branch_front (OneBranch guard body more) env zero contents choices left outcome runs =
       let front = body_front body env contents choices left outcome runs.1 in

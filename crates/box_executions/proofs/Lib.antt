@@ -1,7 +1,7 @@
 mod ExampleLemmas
-mod ExistLemmas
-mod FrontLemmas
-mod KeepLemmas
-mod OnceLemmas
-mod RangeLemmas
+pub mod ExistLemmas
+pub mod FrontLemmas
+pub mod KeepLemmas
+pub mod OnceLemmas
+pub mod RangeLemmas
 mod TableLemmas

@@ -14,7 +14,7 @@ use Rattle.box_executions.specs.Execution.{InSequence, PutsOutFirst, UsesChoice,
 use Rattle.box_executions.specs.Laws.{ExecutionIsDetermined}
 
 -- there is at most one outcome, and one list of choices that are left
-abbrev Once : Behaviour → Type 0
+abbrev pub Once : Behaviour → Type 0
 Once runs = (contents : List Entry) (choices left other : List ℕ) (one two : Outcome) →
     runs contents choices one left → runs contents choices two other → (one ≡ two) × (left ≡ other)
 
@@ -97,7 +97,7 @@ by_choice_once block rest block_once rest_once contents choices left other one t
     b.runs
 
 -- a guard is true, or none is
-not_none : (branches : Branches) (env : Environment) (number : ℕ) (contents : List Entry) (choices : List ℕ)
+pub not_none : (branches : Branches) (env : Environment) (number : ℕ) (contents : List Entry) (choices : List ℕ)
     (outcome : Outcome) (left : List ℕ) →
     NoGuardIsTrue env contents branches → BranchRuns branches env number contents choices outcome left → ⊥
 not_none NoBranch env number contents choices outcome left none runs = runs
@@ -105,7 +105,7 @@ not_none (OneBranch guard body more) env zero contents choices outcome left none
 not_none (OneBranch guard body more) env (suc number) contents choices outcome left none runs =
     not_none more env number contents choices outcome left none.1 runs
 
-not_chosen : (branches : Branches) (env : Environment) (rest : Behaviour) (contents : List Entry) (choices : List ℕ)
+pub not_chosen : (branches : Branches) (env : Environment) (rest : Behaviour) (contents : List Entry) (choices : List ℕ)
     (outcome : Outcome) (left : List ℕ) →
     NoGuardIsTrue env contents branches → UsesChoice (BranchRuns branches env) rest contents choices outcome left → ⊥
 not_chosen branches env rest contents choices outcome left none uses =
@@ -165,7 +165,7 @@ module _ (law : FieldsDeterminePacket) where
         (λ value s c l m o p x y. body_once body (with_pick env value) are s c l m o p x.1 y.1)
         (body_once rest env are) contents choices left other one two a b
 
-    branch_once : (branches : Branches) (env : Environment) → IsHeaders env.headers → (number : ℕ) →
+    pub branch_once : (branches : Branches) (env : Environment) → IsHeaders env.headers → (number : ℕ) →
         Once (BranchRuns branches env number)
     branch_once NoBranch env are number contents choices left other one two a b = absurd a
     branch_once (OneBranch guard body more) env are zero contents choices left other one two a b =

@@ -25,14 +25,14 @@ pub some_inside : {X : Type 0} {x y : X} → Some x ≡ Some y → x ≡ y
 some_inside e = cc
 
 -- the member of the other list at the same place
-zip_get : {A B : Type 0} (R : A → B → Type 0) (xs : List A) (ys : List B) (k : ℕ) (x : A) → AllZip R xs ys →
+pub zip_get : {A B : Type 0} (R : A → B → Type 0) (xs : List A) (ys : List B) (k : ℕ) (x : A) → AllZip R xs ys →
     slice_get xs k ≡ Some x → (y : B) × (slice_get ys k ≡ Some y) × R x y
 zip_get R [] ys k x all e = absurd (cc)
 zip_get R (z ∷ xs) [] k x all e = absurd all
 zip_get R (z ∷ xs) (y ∷ ys) zero x all e = (y, refl, subst (λ w. R w y) (some_inside e) all.0)
 zip_get R (z ∷ xs) (y ∷ ys) (suc k) x all e = zip_get R xs ys k x all.1 e
 
-at_index : {X : Type 0} (xs : List X) (k : ℕ) (x d : X) → slice_get xs k ≡ Some x → slice_index_or xs k d ≡ x
+pub at_index : {X : Type 0} (xs : List X) (k : ℕ) (x d : X) → slice_get xs k ≡ Some x → slice_index_or xs k d ≡ x
 at_index [] k x d e = absurd (cc)
 at_index (y ∷ xs) zero x d e = some_inside e
 at_index (y ∷ xs) (suc k) x d e = at_index xs k x d e
@@ -66,13 +66,13 @@ pick_opened around picks env size value is less = record {
 }
 
 -- the values of fields, each below its size
-record AreValues (headers values : List ℕ) : Type 0 where
-  long : length values ≡ length headers
-  below : (k : ℕ) → k < length headers → slice_index values k < slice_index headers k
+pub record AreValues (headers values : List ℕ) : Type 0 where
+  pub long : length values ≡ length headers
+  pub below : (k : ℕ) → k < length headers → slice_index values k < slice_index headers k
 
 module _ (law : FieldsAreBelowSizes) (around : Surroundings) (picks : List ℕ) (env : Environment)
     (is : IsEnvironment around picks env) where
-  term_below : (kind size : ℕ) (term : Term) → TermFits around picks kind term →
+  pub term_below : (kind size : ℕ) (term : Term) → TermFits around picks kind term →
       slice_get around.sizes kind ≡ Some size → value_in env term < size
   term_below kind size (Field k) fits e =
       let found =
@@ -120,7 +120,7 @@ module _ (law : FieldsAreBelowSizes) (around : Surroundings) (picks : List ℕ) 
             (terms_below fits.0 found.0 query.args fits.2 found.2);
       }
 
-  change_below : (change : Change) → ChangeFits around picks change →
+  pub change_below : (change : Change) → ChangeFits around picks change →
       (change.field < length env.headers) × (value_in env change.to < slice_index env.headers change.field)
   change_below change fits =
       let found =
@@ -150,7 +150,8 @@ module _ (law : FieldsAreBelowSizes) (around : Surroundings) (picks : List ℕ) 
     ];
   }
 
-  changes_keep : (changes : List Change) (now : List ℕ) → ChangesFit around picks changes → AreValues env.headers now →
+  pub changes_keep : (changes : List Change) (now : List ℕ) → ChangesFit around picks changes → AreValues env.headers
+      now →
       AreValues env.headers (fold (with_change (fields_of env.headers env.packet) env.picked) now changes)
   changes_keep [] now fits are = are
   changes_keep (change ∷ changes) now fits are =
@@ -158,7 +159,7 @@ module _ (law : FieldsAreBelowSizes) (around : Surroundings) (picks : List ℕ) 
       changes_keep changes (with_change (fields_of env.headers env.packet) env.picked now change) fits.1
       (set_values now change.field (value_in env change.to) are change_is.0 change_is.1)
 
-  fields_are : AreValues env.headers (fields_of env.headers env.packet)
+  pub fields_are : AreValues env.headers (fields_of env.headers env.packet)
   fields_are = record {
     long = length-map-range_with_len (field_of env.headers env.packet) 0 (length env.headers);
     below = λ k less. omega

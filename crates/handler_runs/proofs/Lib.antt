@@ -1,0 +1,7 @@
+mod ActLemmas
+mod CodeLemmas
+mod GuardLemmas
+mod NumberLemmas
+mod RunLemmas
+mod StuckLemmas
+mod EndLemmas

@@ -1,0 +1,4 @@
+pub mod Code
+pub mod Executing
+pub mod Reading
+pub mod Run
