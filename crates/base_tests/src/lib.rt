@@ -11,6 +11,8 @@ mod fixpoints;
 #[cfg(test)]
 mod memory_and_system;
 #[cfg(test)]
+mod schedules;
+#[cfg(test)]
 mod sets_of_cells;
 #[cfg(test)]
 mod tokens;
