@@ -1,6 +1,6 @@
 mod CoverLemmas
-mod EnabledLemmas
-mod ListLemmas
-mod PlanLemmas
+pub mod EnabledLemmas
+pub mod ListLemmas
+pub mod PlanLemmas
 mod StepLemmas
-mod WorldLemmas
+pub mod WorldLemmas

@@ -1,0 +1,7 @@
+mod BoxlessLemmas
+pub mod CoverLemmas
+mod ListLemmas
+mod MaskLemmas
+mod PairLemmas
+mod RangeLemmas
+pub mod RunLemmas

@@ -1,0 +1,5 @@
+use Rattle.packet_state.proofs.RunLemmas as lemmas
+use Rattle.packet_state.proofs.laws.least_is_within.Goals as goal
+
+pub returns : goal.returns
+returns c = lemmas.least_is_within

@@ -1,0 +1,5 @@
+pub mod Answers
+pub mod Covers
+pub mod Follows
+pub mod Laws
+pub mod Pairs
