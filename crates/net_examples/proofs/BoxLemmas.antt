@@ -123,11 +123,11 @@ from_five other linked =
 abbrev pattern : List (Option ℕ)
 pattern = Some 1 ∷ None ∷ None ∷ None ∷ None ∷ None ∷ None ∷ None ∷ []
 
-field_is : field_of (2 ∷ []) 1 0 ≡ 1
+pub field_is : field_of (2 ∷ []) 1 0 ≡ 1
 unfolding field_of
 field_is = refl
 
-field_is_not : field_of (2 ∷ []) 0 0 ≡ 0
+pub field_is_not : field_of (2 ∷ []) 0 0 ≡ 0
 unfolding field_of
 field_is_not = refl
 
@@ -138,7 +138,7 @@ forbids_one = (0, pattern, lit< tt, refl, record { each = λ k y less fixed. eac
     each zero y less fixed = let same : 1 ≡ y = cc in field_is ∙ same
     each (suc k) y less fixed = absurd (omega arith)
 
-one_pattern : (P : List (Option ℕ) → Type 0) (only : List (Option ℕ)) → Any P (only ∷ []) → P only
+pub one_pattern : (P : List (Option ℕ) → Type 0) (only : List (Option ℕ)) → Any P (only ∷ []) → P only
 one_pattern P only (zero, found, less, same, holds) = subst P (sym same) holds
 one_pattern P only (suc k, found, less, same, holds) = absurd (omega arith)
 
@@ -238,7 +238,7 @@ differ_by same tells x (y ∷ ys) e =
     and_parts (not (same x y)) (list_all (λ z. not (same x z)) ys) e in
     All-cons (λ z. x ≢ z) y ys (tells x y (not-true (same x y) parts.0)) (differ_by same tells x ys parts.1)
 
-apart_by : {X : Type 0} (same : X → X → Bool) → Tells same → (xs : List X) → are_apart same xs ≡ true → AreApart xs
+pub apart_by : {X : Type 0} (same : X → X → Bool) → Tells same → (xs : List X) → are_apart same xs ≡ true → AreApart xs
 apart_by same tells [] e = λ i j d below in_range. absurd (omega arith)
 apart_by same tells (x ∷ xs) e =
     let parts : (list_all (λ y. not (same x y)) xs ≡ true) × (are_apart same xs ≡ true) =
@@ -251,7 +251,7 @@ same_name one two = pointwise nat_eq one two
 names_tell : Tells same_name
 names_tell one two e = not_from_Decides (same_name one two) (bytes_decides one two) e
 
-apart_names : (names : List (List ℕ)) → are_apart same_name names ≡ true → AreApart names
+pub apart_names : (names : List (List ℕ)) → are_apart same_name names ≡ true → AreApart names
 apart_names names e = apart_by same_name names_tell names e
 
 abbrev table : List Reserved
@@ -270,27 +270,27 @@ word_of-spelling reserved.Network = refl
 word_of-spelling word = refl
 
 -- a word of at most 24 bytes that isn't found among the reserved ones
-by_bytes : (name : List ℕ) → IsWord name → length name ≤ 24 → word_of name ≡ None → IsName name
+pub by_bytes : (name : List ℕ) → IsWord name → length name ≤ 24 → word_of name ≡ None → IsName name
 by_bytes name word short none = record {
   word = word;
   short = short;
   free = λ kept e. absurd (let found : None ≡ Some kept = sym none ∙ ap word_of e ∙ word_of-spelling kept in cc);
 }
 
-only : {X : Type 0} (P : X → Type 0) (x : X) → P x → All P (x ∷ [])
+pub only : {X : Type 0} (P : X → Type 0) (x : X) → P x → All P (x ∷ [])
 only P x holds = All-cons P x [] holds (All-nil P)
 
-both : {X : Type 0} (P : X → Type 0) (x y : X) → P x → P y → All P (x ∷ y ∷ [])
+pub both : {X : Type 0} (P : X → Type 0) (x y : X) → P x → P y → All P (x ∷ y ∷ [])
 both P x y one two = All-cons P x (y ∷ []) one (only P y two)
 
-one_apart : {X : Type 0} (x : X) → AreApart (x ∷ [])
+pub one_apart : {X : Type 0} (x : X) → AreApart (x ∷ [])
 one_apart x i j d below in_range = absurd (omega arith)
 
 -- types and fields
-abbrev address : KindPlan
+abbrev pub address : KindPlan
 address = record { name = codes "Addr"; values = codes "a" ∷ codes "b" ∷ [] }
 
-address_sound : IsKind address
+pub address_sound : IsKind address
 address_sound = record {
   named = by_bytes (codes "Addr") (refl, refl) (lit≤ tt) refl;
   values = both IsName (codes "a") (codes "b")
@@ -357,11 +357,11 @@ box_w = record { name = codes "w"; class = 0; first = open_b ∷ [] }
 abbrev box_t : BoxPlan
 box_t = record { name = codes "t"; class = 1; first = [] }
 
-none_rise : IsRising []
+pub none_rise : IsRising []
 unfolding IsStrictlySortedBy
 none_rise = tt
 
-one_rises : (entry : Entry) → IsRising (entry ∷ [])
+pub one_rises : (entry : Entry) → IsRising (entry ∷ [])
 unfolding IsStrictlySortedBy
 one_rises entry = (tt, tt)
 

@@ -1,3 +1,6 @@
 mod BoxLemmas
-mod WireLemmas
+mod FirewallDerived
+mod FirewallLemmas
+mod FirewallSound
 mod LoopLemmas
+mod WireLemmas

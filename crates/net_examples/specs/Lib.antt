@@ -1,3 +1,4 @@
 pub mod Boxes
+pub mod Firewall
 pub mod Loop
 pub mod Wire

@@ -1,5 +1,5 @@
-//! Runs of two hosts on a wire and of a box that is linked to itself, and the ends and cells of a network with boxes,
-//! worked out by hand. Each is the contract of a function that does nothing.
+//! Runs of two hosts on a wire and of a box that is linked to itself, the ends and cells of a network with boxes, and
+//! the facts that cover all runs of a firewall, worked out by hand. Each is the contract of a function that does nothing.
 #![tactic(auto)]
 
 ghost use Rattle.net_examples.specs.Wire.{TwiceDelivered, NoThirdDelivery, BadRunByHand, NoOrderedBadRun};
@@ -7,11 +7,14 @@ ghost use Rattle.net_examples.specs.Wire.{NothingElseEnabled, SafeWireRunsSafely
 ghost use Rattle.net_examples.specs.Loop.{LoopStepsByHand, AbortedRunByHand};
 ghost use Rattle.net_examples.specs.Boxes.{BoxesAreSound, EndsByHand, PartnersByHand, NamesByHand, CellsByHand};
 ghost use Rattle.net_examples.specs.Boxes.{BadByHand};
+ghost use Rattle.net_examples.specs.Firewall.{FirewallIsSafe, FirewallFactsAreLeast};
 
+use box_contents::{held_is_member, held_with};
 use box_executions::{guard_meanings, statement_meanings};
 use box_handlers::{bodies_are_read, formulas_are_read};
 use net_plan::laws::derivable_is_sent;
 use net_runs::laws::safe_network_runs_safely;
+use packet_state::laws::closed_set_runs_safely;
 
 /// Two sends of one packet and two deliveries are a run in either mode.
 pub fn twice_delivered()
@@ -94,3 +97,24 @@ pub fn cells_by_hand()
 pub fn bad_by_hand()
     ensures { BadByHand }
 {}
+
+/// A firewall, whose facts by hand are a closed set without a bad one, so that no run is bad.
+pub fn firewall_is_safe()
+    ensures { FirewallIsSafe }
+{
+    bodies_are_read();
+    formulas_are_read();
+    held_is_member();
+    held_with();
+    closed_set_runs_safely();
+}
+
+/// All of these facts are derivable, so that they are the least closed set.
+pub fn firewall_facts_are_least()
+    ensures { FirewallFactsAreLeast }
+{
+    bodies_are_read();
+    formulas_are_read();
+    held_is_member();
+    held_with();
+}
