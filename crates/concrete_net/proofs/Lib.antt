@@ -1,0 +1,7 @@
+pub mod CauseLemmas
+mod ChannelLemmas
+mod DeliveryLemmas
+mod OutputLemmas
+mod PortLemmas
+mod TableLemmas
+mod TakeLemmas
