@@ -8,8 +8,7 @@ use Rattle.schedule_text.specs.declared.refusal.ScheduleSyntax.TheVariants.{Synt
 use Rattle.schedule_text.specs.Spelled.{spell_of_steps, AreBuiltSteps}
 
 -- k tokens begin the spelling of steps; with the next token they begin none; and where they are all the tokens, no
--- steps
--- are spelled so
+-- steps are spelled so
 abbrev pub IsScheduleSyntaxAt : List Token → ℕ → Type 0
 IsScheduleSyntaxAt = IsSyntaxAt spell_of_steps AreBuiltSteps AreBuiltSteps
 

@@ -1,0 +1,5 @@
+mod BadLemmas
+mod ReadLemmas
+mod ReplayLemmas
+mod RunLemmas
+mod SafeLemmas

@@ -1,0 +1,4 @@
+pub mod Laws
+pub mod Read
+pub mod Replays
+pub mod Texts
