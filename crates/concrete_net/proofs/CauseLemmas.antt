@@ -48,13 +48,13 @@ bad_never_executes env handler contents choices k outcome bad executes =
       | inr short ↦ short.1 outcome executes
     ]
 
-not_both : (host box port : ℕ) → Host host ≡ Port box port → ⊥
+pub not_both : (host box port : ℕ) → Host host ≡ Port box port → ⊥
 not_both host box port e = cc
 
-same_box : (one two port other : ℕ) → Port one port ≡ Port two other → one ≡ two
+pub same_box : (one two port other : ℕ) → Port one port ≡ Port two other → one ≡ two
 same_box one two port other e = cc
 
-same_port : (one two port other : ℕ) → Port one port ≡ Port two other → port ≡ other
+pub same_port : (one two port other : ℕ) → Port one port ≡ Port two other → port ≡ other
 same_port one two port other e = cc
 
 module _ (plan : Plan) (sound : IsSound plan) (mode : Mode) (world : World) (end packet : ℕ) (choices : List ℕ) where
@@ -173,11 +173,3 @@ leads_alone law plan sound old new step (Err refusal) answer event other leads =
       | inl cause ↦ absurd (excluded plan sound old step refusal event other.world cause leads.1)
       | inr none ↦ none
     ]
-
-pub cause_refuses : (plan : Plan) → IsSound plan → (old new : Seen) (step : Step)
-    (result : Result Event StepRefusal) → IsAnswer plan old step result new →
-    (cause : StepRefusal) → IsCause plan old step cause →
-    MatchResult result (λ _. ⊥) (λ refusal. IsCause plan old step refusal ⊎ (refusal ≡ NoMemory))
-cause_refuses plan sound old new step (Ok found) answer cause why =
-    excluded plan sound old step cause found new.world why answer.1
-cause_refuses plan sound old new step (Err refusal) answer cause why = answer.1

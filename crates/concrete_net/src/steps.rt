@@ -41,7 +41,7 @@ impl State {
             (λ refusal. refusal ≡ StepRefusal.NoMemory) }
         ensures refused { (cause : StepRefusal) → IsCause net.now self.old step.now cause →
             MatchResult result (λ _. ⊥)
-            (λ refusal. IsCause net.now self.old step.now refusal ⊎ (refusal ≡ StepRefusal.NoMemory)) }
+            (λ refusal. (refusal ≡ cause) ⊎ (refusal ≡ StepRefusal.NoMemory)) }
         ensures world { IsWorld net.now self.new.world }
     {
         net.sound();

@@ -4,4 +4,4 @@ mod GuardLemmas
 mod NumberLemmas
 mod RunLemmas
 mod StuckLemmas
-mod EndLemmas
+pub mod EndLemmas

@@ -1,4 +1,5 @@
-use Rattle.concrete_net.proofs.CauseLemmas.{leads_alone, cause_refuses}
+use Rattle.concrete_net.proofs.CauseLemmas.{leads_alone}
+use Rattle.concrete_net.proofs.OnceLemmas.{cause_refuses}
 use Rattle.concrete_net.proofs.state.State.step.Goals as goal
 
 pub returns-clause-leads : goal.returns-clause-leads
