@@ -1,7 +1,7 @@
 mod ActLemmas
 mod CodeLemmas
-mod GuardLemmas
-mod NumberLemmas
+pub mod GuardLemmas
+pub mod NumberLemmas
 mod RunLemmas
 mod StuckLemmas
 pub mod EndLemmas

@@ -1,4 +1,4 @@
-mod CellLemmas
+pub mod CellLemmas
 pub mod EndLemmas
 pub mod Linked
 mod NameLemmas

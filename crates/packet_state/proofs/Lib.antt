@@ -1,7 +1,7 @@
 mod BoxlessLemmas
 pub mod CoverLemmas
-mod ListLemmas
-mod MaskLemmas
+pub mod ListLemmas
+pub mod MaskLemmas
 mod PairLemmas
-mod RangeLemmas
+pub mod RangeLemmas
 pub mod RunLemmas
