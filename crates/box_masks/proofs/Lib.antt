@@ -1,2 +1,2 @@
 pub mod BitLemmas
-mod MaskLemmas
+pub mod MaskLemmas

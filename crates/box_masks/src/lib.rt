@@ -4,5 +4,5 @@
 mod masks;
 mod write;
 
-pub use masks::{agree, answers, patch};
+pub use masks::{agree, answers, first_answers, patch};
 pub use write::Write;

@@ -1,8 +1,8 @@
 //! Masks of the queries of a box at its packets.
 ghost use Rattle.std.specs.Prelude.{◌≡◌, ℕ, ◌<◌, ◌≤◌, ◌^◌, ◌↔◌, List, [], length, IsTrue, All};
 ghost use Rattle.box_contents.specs.declared.entry.Entry.{Entry};
-ghost use Rattle.box_contents.specs.Contents.{same_entry};
-ghost use Rattle.net_plan.specs.Plan.{packets_of, boxes_of};
+ghost use Rattle.box_contents.specs.Contents.{IsRising, same_entry};
+ghost use Rattle.net_plan.specs.Plan.{packets_of, boxes_of, box_at};
 ghost use Rattle.net_plan.specs.Reading.{QueryFitsAt};
 ghost use Rattle.packet_state.specs.Answers.{class_of_box, answers};
 ghost use Rattle.box_masks.specs.Writes.{AreShown, IsMaskOf, IsPatched, after_writes};
@@ -10,7 +10,7 @@ ghost use Rattle.box_masks.specs.Bits.{tuples_at, answers_over, is_alike, has_bi
 
 use crate::write::Write;
 use box_contents::{
-    Contents, Entry, held_with, held_without, with_keeps_rising, without_keeps_rising,
+    Contents, Entry, held_with, held_without, is_among, with_keeps_rising, without_keeps_rising,
 };
 use header_set::laws::fields_are_below_sizes;
 use net_plan::{Network, Query};
@@ -22,7 +22,17 @@ pub fn answers(net: &Network, b: u32, contents: &Contents, p: u32) -> u16
     requires packet { p < packets_of net.now }
     ensures { result ≡ answers net.now b p contents.now }
 {
-    answers_to(net, b, net.queries(b), contents, p)
+    answers_of(net, b, net.queries(b), contents.entries(), p)
+}
+
+/// The answers of the first contents of a box at a packet. It takes no memory. Linear in the queries, each with a
+/// search of these contents.
+pub fn first_answers(net: &Network, b: u32, p: u32) -> u16
+    requires boxed { b < boxes_of net.now }
+    requires packet { p < packets_of net.now }
+    ensures { result ≡ answers net.now b p (box_at net.now b).first }
+{
+    answers_of(net, b, net.queries(b), net.first_entries(b), p)
 }
 
 /// Whether some contents of a box answer with the mask `v` at packet `p` and with `w` at `q`. It takes no memory.
@@ -62,20 +72,21 @@ pub fn patch(net: &Network, b: u32, update: &[Write], q: u32, w: u16) -> u16
     patched(net, b, net.queries(b), update, q, w)
 }
 
-// The answers to these queries, the lowest bit first.
-fn answers_to(net: &Network, b: u32, queries: &[Query], contents: &Contents, p: u32) -> u16
+// The answers of these entries to these queries, the lowest bit first.
+fn answers_of(net: &Network, b: u32, queries: &[Query], entries: &[Entry], p: u32) -> u16
     requires boxed { b < boxes_of net.now }
     requires packet { p < packets_of net.now }
     requires few { length queries.now ≤ 12 }
     requires fit { All (QueryFitsAt net.now (class_of_box net.now b) []) queries.now }
-    ensures mask { result ≡ answers_over contents.now (tuples_at net.now b p queries.now) }
+    requires rising { IsRising entries.now }
+    ensures mask { result ≡ answers_over entries.now (tuples_at net.now b p queries.now) }
     ensures below { result < 2 ^ length queries.now }
 {
     match queries.split_first() {
         None => 0,
         Some((query, rest)) => {
-            let bit = contents.holds(net.tuple_at(b, query, p, &[]));
-            with_bit(answers_to(net, b, rest, contents, p), bit)
+            let bit = is_among(entries, net.tuple_at(b, query, p, &[]));
+            with_bit(answers_of(net, b, rest, entries, p), bit)
         }
     }
 }

@@ -1,0 +1,15 @@
+use Rattle.std.proofs.Common.{sym, ap, ◌∙◌}
+use Rattle.net_plan.specs.Plan.{box_at}
+use Rattle.packet_state.specs.Answers.{class_of_box}
+use Rattle.box_masks.specs.Bits.{tuples_at, answers_over}
+use Rattle.box_masks.proofs.MaskLemmas.{answers_are}
+use Rattle.box_masks.proofs.masks.first_answers.Goals as goal
+
+pub returns : goal.returns
+returns c =
+    c.answers_of.ensures.mask
+    ∙ ap (λ queries. answers_over c.first_entries.result.now (tuples_at c.args.net.now c.args.b c.args.p queries))
+    c.queries.ensures.queries
+    ∙ ap (λ entries. answers_over entries (tuples_at c.args.net.now c.args.b c.args.p (class_of_box c.args.net.now c.args.b).queries))
+    c.first_entries.ensures.entries
+    ∙ sym (answers_are c.args.net.now c.args.b c.args.p (box_at c.args.net.now c.args.b).first)
