@@ -1,0 +1,9 @@
+mod BoundLemmas
+mod FoundLemmas
+mod GuardLemmas
+mod MaskLemmas
+mod MemberLemmas
+mod PlaceLemmas
+mod ResultLemmas
+mod StepLemmas
+mod WalkLemmas

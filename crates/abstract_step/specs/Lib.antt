@@ -1,0 +1,7 @@
+pub mod Coded
+pub mod Fire
+pub mod Found
+pub mod Masks
+pub mod Paths
+pub mod Step
+pub mod Walk
