@@ -22,11 +22,13 @@ use Rattle.tree_rules.specs.declared.rule.Rule.TheVariants.{
 }
 use Rattle.plan_text.specs.declared.refusal.NetworkRefusal.{NetworkRefusal}
 use Rattle.plan_text.specs.declared.refusal.NetworkRefusal.TheVariants.{TooLong, BadByte, WordTooLong, TooManyTokens}
-use Rattle.plan_text.specs.declared.refusal.NetworkRefusal.TheVariants.{Syntax, Deep, BrokenRule, FirstForm}
+use Rattle.plan_text.specs.declared.refusal.NetworkRefusal.TheVariants.{Syntax, Deep, BrokenRule}
 
 -- how a call is written, and the verbs
 abbrev pub usage_text : List ℕ
-usage_text = line (codes "usage: amdl VERB WORD [WORD]") ++ line (codes "verbs: analyse check format")
+usage_text =
+    line (codes "usage: amdl VERB WORD [WORD]")
+    ++ line (codes "verbs: analyse check format replay replay-ordered")
 
 -- a rule by its name
 abbrev pub name_of_rule : Rule → List ℕ
@@ -66,7 +68,6 @@ text_of_refusal TooManyTokens = codes "TooManyTokens"
 text_of_refusal (Syntax at) = token_fault at (codes " Syntax")
 text_of_refusal (Deep at) = token_fault at (codes " Deep")
 text_of_refusal (BrokenRule item rule) = item_fault item (codes " " ++ name_of_rule rule)
-text_of_refusal FirstForm = codes "FirstForm"
 
 -- the network text is refused
 abbrev pub refused_network : NetworkRefusal → List ℕ

@@ -48,11 +48,12 @@ abbrev pub count_of_aborts : List Fact → ℕ
 count_of_aborts facts = count_by is_abort facts
 
 -- the numbers of facts by kind
+abbrev pub numbers_line : ℕ → ℕ → ℕ → List ℕ
+numbers_line outs states aborts =
+    codes "facts out " ++ decimal outs ++ codes " state " ++ decimal states ++ codes " abort " ++ decimal aborts
+
 abbrev pub facts_line : List Fact → List ℕ
-facts_line facts =
-    codes "facts out " ++ decimal (count_of_outs facts)
-    ++ codes " state " ++ decimal (count_of_states facts)
-    ++ codes " abort " ++ decimal (count_of_aborts facts)
+facts_line facts = numbers_line (count_of_outs facts) (count_of_states facts) (count_of_aborts facts)
 
 -- a host's place is written by the name of the host, a port's by the names of its box and its own: `HOST` or `BOX.PORT`
 abbrev pub text_of_place : Plan → Place → List ℕ
@@ -131,13 +132,17 @@ bad_line plan (Abort box packet) = abort_line plan box packet
 abbrev pub more_text : ℕ → List ℕ
 more_text count = if nat_lt 1000 count then line (codes "more " ++ decimal (count - 1000)) else []
 
+-- the number of bad facts, and a line for each of those that are listed
+abbrev pub alarm_text : Plan → ℕ → List Fact → List ℕ
+alarm_text plan count listed =
+    line (codes "ALARM " ++ decimal count)
+    ++ flat_map (λ bad. line (bad_line plan bad)) listed
+    ++ more_text count
+
 -- safe where no fact is bad; else the number of bad facts, and the first 1,000 of them in order, a line each
 abbrev pub verdict_text : Plan → List Fact → List ℕ
 verdict_text plan [] = line (codes "SAFE")
-verdict_text plan (fact ∷ facts) =
-    line (codes "ALARM " ++ decimal (length (fact ∷ facts)))
-    ++ flat_map (λ bad. line (bad_line plan bad)) (take 1000 (fact ∷ facts))
-    ++ more_text (length (fact ∷ facts))
+verdict_text plan (fact ∷ facts) = alarm_text plan (length (fact ∷ facts)) (take 1000 (fact ∷ facts))
 
 -- the network line, the facts line of all facts, and the verdict of the bad ones
 abbrev pub report_of : Plan → List Fact → List Fact → List ℕ

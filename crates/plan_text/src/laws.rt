@@ -1,5 +1,6 @@
 //! Laws over the definitions, each the contract of a function that does nothing.
 ghost use Rattle.plan_text.specs.Laws.{ReportBegins, SafeIsTold, SafeIsPrinted, MessagesAreNotSafe, WireReport};
+ghost use Rattle.plan_text.specs.Found.{FindingsAreReported};
 ghost use Rattle.plan_text.specs.Laws.{BoxedWireReport, CountsAreNotSafe, BoxedWireCounts};
 
 /// A report begins with `network`.
@@ -15,6 +16,11 @@ pub fn safe_is_told()
 /// The report of a network with a good name and no bad fact prints SAFE.
 pub fn safe_is_printed()
     ensures { SafeIsPrinted }
+{}
+
+/// The report that findings give is that of the facts which they summarise.
+pub fn findings_are_reported()
+    ensures { FindingsAreReported }
 {}
 
 /// Usage and refusals never print SAFE, however early they are cut off.

@@ -5,6 +5,7 @@
 
 mod counts;
 mod digits;
+mod findings;
 pub mod laws;
 mod lines;
 mod messages;
@@ -13,6 +14,7 @@ mod report;
 
 pub use counts::put_counts;
 pub use digits::Digits;
+pub use findings::Findings;
 pub use lines::{put_end, put_facts_line, put_network_line, put_packet};
 pub use messages::{put_fault_load, put_missing, put_refused, usage};
 pub use refusal::NetworkRefusal;

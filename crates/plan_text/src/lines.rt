@@ -2,13 +2,13 @@ ghost use Rattle.std.specs.Prelude.{◌≡◌, ◌<◌, ◌++◌, length, OnOk, 
 ghost use Rattle.amdl_tree.specs.Appends.{AppendsPart};
 ghost use Rattle.net_plan.specs.Plan.{packets_of, boxes_of, box_at, ports_of};
 ghost use Rattle.net_plan.specs.Ends.{ends_of};
-ghost use Rattle.plan_text.specs.Text.{network_line, facts_line, count_of_outs, count_of_states, count_of_aborts};
+ghost use Rattle.plan_text.specs.Text.{network_line, numbers_line};
 ghost use Rattle.plan_text.specs.Text.{text_of_place, text_of_end, text_of_field, text_of_packet};
 
 use crate::digits::Digits;
 use amdl_tree::{NoMemory, put_all};
 use net_plan::laws::{host_ends, port_ends};
-use net_plan::{Fact, Network, Place};
+use net_plan::{Network, Place};
 
 /// Appends the network line, without its end.
 pub fn put_network_line(network: &Network, out: &mut Vec<u8>) -> Result<(), NoMemory>
@@ -34,14 +34,19 @@ pub fn put_network_line(network: &Network, out: &mut Vec<u8>) -> Result<(), NoMe
     )
 }
 
-/// Appends the facts line, without its end. Linear in the facts.
-pub fn put_facts_line(facts: &[Fact], out: &mut Vec<u8>) -> Result<(), NoMemory>
-    ensures ok { OnOk result (out.new.items ≡ out.old.items ++ facts_line facts.now) }
-    ensures err { OnErr result (AppendsPart out.old.items out.new.items (facts_line facts.now)) }
+/// Appends the facts line of these numbers of facts by kind, without its end.
+pub fn put_facts_line(
+    outs: u32,
+    states: u32,
+    aborts: u32,
+    out: &mut Vec<u8>,
+) -> Result<(), NoMemory>
+    ensures ok { OnOk result (out.new.items ≡ out.old.items ++ numbers_line outs states aborts) }
+    ensures err { OnErr result (AppendsPart out.old.items out.new.items (numbers_line outs states aborts)) }
 {
-    let outs = Digits::of(count_outs(facts) as u64);
-    let states = Digits::of(count_states(facts) as u64);
-    let aborts = Digits::of(count_aborts(facts) as u64);
+    let outs = Digits::of(outs as u64);
+    let states = Digits::of(states as u64);
+    let aborts = Digits::of(aborts as u64);
     put_all(
         out,
         &[
@@ -53,33 +58,6 @@ pub fn put_facts_line(facts: &[Fact], out: &mut Vec<u8>) -> Result<(), NoMemory>
             aborts.bytes(),
         ],
     )
-}
-
-fn count_outs(facts: &[Fact]) -> usize
-    ensures { result ≡ count_of_outs facts.now }
-{
-    facts
-        .iter()
-        .filter(|fact| matches!(fact, Fact::Out(..)))
-        .count()
-}
-
-fn count_states(facts: &[Fact]) -> usize
-    ensures { result ≡ count_of_states facts.now }
-{
-    facts
-        .iter()
-        .filter(|fact| matches!(fact, Fact::State(..)))
-        .count()
-}
-
-fn count_aborts(facts: &[Fact]) -> usize
-    ensures { result ≡ count_of_aborts facts.now }
-{
-    facts
-        .iter()
-        .filter(|fact| matches!(fact, Fact::Abort(..)))
-        .count()
 }
 
 /// Appends the name of an end.

@@ -18,7 +18,7 @@ pub fn usage(out: &mut Vec<u8>) -> Result<(), NoMemory>
         out,
         &[
             b"usage: amdl VERB WORD [WORD]\n",
-            b"verbs: analyse check format\n",
+            b"verbs: analyse check format replay replay-ordered\n",
         ],
     )
 }
@@ -36,7 +36,6 @@ pub fn put_refused(refusal: NetworkRefusal, out: &mut Vec<u8>) -> Result<(), NoM
         NetworkRefusal::Syntax(at) => put_placed(b"token ", at, b" Syntax", out),
         NetworkRefusal::Deep(at) => put_placed(b"token ", at, b" Deep", out),
         NetworkRefusal::BrokenRule { item, rule } => put_broken(item, rule, out),
-        NetworkRefusal::FirstForm => put_reason(b"FirstForm", out),
     }
 }
 

@@ -18,6 +18,4 @@ pub enum NetworkRefusal {
     /// The item is the first of which a rule holds together with the items before it, and the rule is the first that
     /// holds of it. Where no item is a field, and no other rule holds, the item is the number of items.
     BrokenRule { item: u32, rule: Rule },
-    /// The network isn't in the form that is analysed.
-    FirstForm,
 }

@@ -1,13 +1,15 @@
-ghost use Rattle.std.specs.Prelude.{◌≡◌, ◌++◌, ℕ, ◌<◌, All, OnOk, OnErr, length, take};
+ghost use Rattle.std.specs.Prelude.{◌≡◌, ◌++◌, ℕ, ◌<◌, All, OnOk, OnErr, length};
 ghost use Rattle.std.specs.List.{flat_map};
 ghost use Rattle.amdl_tree.specs.Layout.{line};
 ghost use Rattle.net_plan.specs.Plan.{packets_of, boxes_of};
 ghost use Rattle.net_plan.specs.Ends.{ends_of, IsEndAt};
 ghost use Rattle.amdl_tree.specs.Appends.{AppendsPart};
 ghost use Rattle.plan_text.specs.Text.{bad_line, delivery_line, delivery_start, deliver_line, abort_start, abort_line};
-ghost use Rattle.plan_text.specs.Text.{host_across, more_text, report_of, verdict_text, IsToHost, HasLine};
+ghost use Rattle.plan_text.specs.Text.{host_across, more_text, IsToHost, HasLine};
+ghost use Rattle.plan_text.specs.Found.{report_by, verdict_by};
 
 use crate::digits::Digits;
+use crate::findings::Findings;
 use crate::lines::{put_end, put_facts_line, put_network_line, put_packet};
 use amdl_tree::{NoMemory, put_all};
 use net_plan::laws::{host_ends, partner_is_unique};
@@ -16,48 +18,35 @@ use net_plan::{Fact, Network, Place};
 /// The most bad facts that a report lists.
 const MOST_LISTED: usize = 1000;
 
-/// Appends the report of a network: these are all its facts, and those that are bad, in file order. Linear in the
-/// facts, and for each bad fact that is listed in the fields.
-pub fn put_report(
-    network: &Network,
-    facts: &[Fact],
-    bad: &[Fact],
-    out: &mut Vec<u8>,
-) -> Result<(), NoMemory>
-    requires { All (HasLine network.now) bad.now }
-    ensures ok { OnOk result (out.new.items ≡ out.old.items ++ report_of network.now facts.now bad.now) }
-    ensures err { OnErr result (AppendsPart out.old.items out.new.items (report_of network.now facts.now bad.now)) }
+/// Appends the report of a network of which an analysis found this. It takes time in the fields for each bad fact that
+/// is listed.
+pub fn put_report(network: &Network, findings: &Findings, out: &mut Vec<u8>) -> Result<(), NoMemory>
+    requires { All (HasLine network.now) findings.now.listed }
+    ensures ok { OnOk result (out.new.items ≡ out.old.items ++ report_by network.now findings.now) }
+    ensures err { OnErr result (AppendsPart out.old.items out.new.items (report_by network.now findings.now)) }
 {
     put_network_line(network, out)?;
     put_all(out, &[b"\n"])?;
-    put_facts_line(facts, out)?;
+    put_facts_line(findings.outs, findings.states, findings.aborts, out)?;
     put_all(out, &[b"\n"])?;
-    put_verdict(network, bad, out)
+    put_verdict(network, findings, out)
 }
 
-// Appends the verdict of the bad facts.
-fn put_verdict(network: &Network, bad: &[Fact], out: &mut Vec<u8>) -> Result<(), NoMemory>
-    requires { All (HasLine network.now) bad.now }
-    ensures ok { OnOk result (out.new.items ≡ out.old.items ++ verdict_text network.now bad.now) }
-    ensures err { OnErr result (AppendsPart out.old.items out.new.items (verdict_text network.now bad.now)) }
+// Appends the verdict of findings.
+fn put_verdict(network: &Network, findings: &Findings, out: &mut Vec<u8>) -> Result<(), NoMemory>
+    requires { All (HasLine network.now) findings.now.listed }
+    ensures ok { OnOk result
+        (out.new.items ≡ out.old.items ++ verdict_by network.now findings.now.bad findings.now.listed) }
+    ensures err { OnErr result
+        (AppendsPart out.old.items out.new.items (verdict_by network.now findings.now.bad findings.now.listed)) }
 {
-    if bad.is_empty() {
+    if findings.bad == 0 {
         return put_all(out, &[b"SAFE\n"]);
     }
-    let count = Digits::of(bad.len() as u64);
+    let count = Digits::of(findings.bad as u64);
     put_all(out, &[b"ALARM ", count.bytes(), b"\n"])?;
-    put_bad_lines(network, listed(bad), out)?;
-    put_more(bad.len(), out)
-}
-
-// The bad facts that are listed.
-fn listed(bad: &[Fact]) -> &[Fact]
-    ensures { result.now ≡ take 1000 bad.now }
-{
-    if bad.len() <= MOST_LISTED {
-        return bad;
-    }
-    &bad[..MOST_LISTED]
+    put_bad_lines(network, findings.listed.as_slice(), out)?;
+    put_more(findings.bad as usize, out)
 }
 
 // Appends a line for each of the facts.

@@ -1,7 +1,8 @@
 use Rattle.std.proofs.Common.{◌≡◌, ℕ, List, [], ◌∷◌, ◌++◌, sym, ap, append_assoc, append-nil}
 use Rattle.std.proofs.lemmas.Result.{on_ok_weaker, on_err_weaker}
 use Rattle.amdl_tree.specs.Layout.{line}
-use Rattle.plan_text.specs.Text.{network_line, facts_line, verdict_text, report_of}
+use Rattle.plan_text.specs.Text.{network_line, numbers_line}
+use Rattle.plan_text.specs.Found.{verdict_by, report_by}
 use Rattle.amdl_tree.proofs.AppendLemmas.{on_err, part_first, part_after, appended_after}
 use Rattle.plan_text.proofs.report.put_report.Goals as goal
 use Rattle.plan_text.proofs.report.put_report.Goals.{After-put_verdict}
@@ -22,31 +23,31 @@ from_second_end network facts verdict = simp append_assoc
 pub returns-in_err-put_network_line-clause-err : goal.returns-in_err-put_network_line-clause-err
 returns-in_err-put_network_line-clause-err c =
     let network = network_line c.args.network.now in
-    let facts = facts_line c.args.facts.now in
-    let verdict = verdict_text c.args.network.now c.args.bad.now in
+    let facts = numbers_line c.args.findings.now.outs c.args.findings.now.states c.args.findings.now.aborts in
+    let verdict = verdict_by c.args.network.now c.args.findings.now.bad c.args.findings.now.listed in
     on_err _ (part_first c.args.out.now.items c.put_network_line.new.out.items network
     (10 ∷ [] ++ (line facts ++ verdict))
-    (report_of c.args.network.now c.args.facts.now c.args.bad.now)
+    (report_by c.args.network.now c.args.findings.now)
     (from_first_end network facts verdict) c.in_err-put_network_line.ensures.err)
 
 pub returns-in_err-put_all-clause-err : goal.returns-in_err-put_all-clause-err
 returns-in_err-put_all-clause-err c =
     let network = network_line c.args.network.now in
-    let facts = facts_line c.args.facts.now in
-    let verdict = verdict_text c.args.network.now c.args.bad.now in
+    let facts = numbers_line c.args.findings.now.outs c.args.findings.now.states c.args.findings.now.aborts in
+    let verdict = verdict_by c.args.network.now c.args.findings.now.bad c.args.findings.now.listed in
     on_err _ (part_after c.args.out.now.items c.put_network_line.new.out.items c.put_all.new.out.items network (10 ∷ [])
     (line facts ++ verdict)
-    (report_of c.args.network.now c.args.facts.now c.args.bad.now)
+    (report_by c.args.network.now c.args.findings.now)
     c.in_ok-put_network_line.ensures.ok (from_first_end network facts verdict) c.in_err-put_all.ensures.err)
 
 pub returns-in_err-put_facts_line-clause-err : goal.returns-in_err-put_facts_line-clause-err
 returns-in_err-put_facts_line-clause-err c =
     let network = network_line c.args.network.now in
-    let facts = facts_line c.args.facts.now in
-    let verdict = verdict_text c.args.network.now c.args.bad.now in
+    let facts = numbers_line c.args.findings.now.outs c.args.findings.now.states c.args.findings.now.aborts in
+    let verdict = verdict_by c.args.network.now c.args.findings.now.bad c.args.findings.now.listed in
     on_err _ (part_after c.args.out.now.items c.put_all.new.out.items c.put_facts_line.new.out.items
     (line network) facts (10 ∷ [] ++ verdict)
-    (report_of c.args.network.now c.args.facts.now c.args.bad.now)
+    (report_by c.args.network.now c.args.findings.now)
     (appended_after c.args.out.now.items c.put_network_line.new.out.items c.put_all.new.out.items network
     (10 ∷ []) c.in_ok-put_network_line.ensures.ok c.in_ok-put_all.ensures.ok)
     (from_second network facts verdict) c.in_err-put_facts_line.ensures.err)
@@ -54,14 +55,14 @@ returns-in_err-put_facts_line-clause-err c =
 pub returns-in_err-put_all-2-clause-err : goal.returns-in_err-put_all-2-clause-err
 returns-in_err-put_all-2-clause-err c =
     let network = network_line c.args.network.now in
-    let facts = facts_line c.args.facts.now in
-    let verdict = verdict_text c.args.network.now c.args.bad.now in
+    let facts = numbers_line c.args.findings.now.outs c.args.findings.now.states c.args.findings.now.aborts in
+    let verdict = verdict_by c.args.network.now c.args.findings.now.bad c.args.findings.now.listed in
     let first =
     appended_after c.args.out.now.items c.put_network_line.new.out.items c.put_all.new.out.items network
     (10 ∷ []) c.in_ok-put_network_line.ensures.ok c.in_ok-put_all.ensures.ok in
     on_err _ (part_after c.args.out.now.items c.put_facts_line.new.out.items c.put_all-2.new.out.items
     (line network ++ facts) (10 ∷ []) verdict
-    (report_of c.args.network.now c.args.facts.now c.args.bad.now)
+    (report_by c.args.network.now c.args.findings.now)
     (appended_after c.args.out.now.items c.put_all.new.out.items c.put_facts_line.new.out.items
     (line network) facts first c.in_ok-put_facts_line.ensures.ok)
     (from_second_end network facts verdict) c.in_err-put_all-2.ensures.err)
@@ -69,10 +70,10 @@ returns-in_err-put_all-2-clause-err c =
 -- both lines stand there before the verdict is put
 both_lines : (c : After-put_verdict) →
     c.put_all-2.new.out.items ≡ c.args.out.now.items
-    ++ (line (network_line c.args.network.now) ++ line (facts_line c.args.facts.now))
+    ++ (line (network_line c.args.network.now) ++ line (numbers_line c.args.findings.now.outs c.args.findings.now.states c.args.findings.now.aborts))
 both_lines c =
     let network = network_line c.args.network.now in
-    let facts = facts_line c.args.facts.now in
+    let facts = numbers_line c.args.findings.now.outs c.args.findings.now.states c.args.findings.now.aborts in
     let first =
     appended_after c.args.out.now.items c.put_network_line.new.out.items c.put_all.new.out.items network
     (10 ∷ []) c.in_ok-put_network_line.ensures.ok c.in_ok-put_all.ensures.ok in
@@ -84,18 +85,18 @@ both_lines c =
 
 pub returns-clause-ok : goal.returns-clause-ok
 returns-clause-ok c =
-    let lines = line (network_line c.args.network.now) ++ line (facts_line c.args.facts.now) in
-    let verdict = verdict_text c.args.network.now c.args.bad.now in
+    let lines = line (network_line c.args.network.now) ++ line (numbers_line c.args.findings.now.outs c.args.findings.now.states c.args.findings.now.aborts) in
+    let verdict = verdict_by c.args.network.now c.args.findings.now.bad c.args.findings.now.listed in
     on_ok_weaker _
     (appended_after c.args.out.now.items c.put_all-2.new.out.items c.put_verdict.new.out.items lines verdict
     (both_lines c)) c.put_verdict.ensures.ok
 
 pub returns-clause-err : goal.returns-clause-err
 returns-clause-err c =
-    let lines = line (network_line c.args.network.now) ++ line (facts_line c.args.facts.now) in
-    let verdict = verdict_text c.args.network.now c.args.bad.now in
+    let lines = line (network_line c.args.network.now) ++ line (numbers_line c.args.findings.now.outs c.args.findings.now.states c.args.findings.now.aborts) in
+    let verdict = verdict_by c.args.network.now c.args.findings.now.bad c.args.findings.now.listed in
     on_err_weaker _
     (part_after c.args.out.now.items c.put_all-2.new.out.items c.put_verdict.new.out.items lines verdict []
-    (report_of c.args.network.now c.args.facts.now c.args.bad.now) (both_lines c)
+    (report_by c.args.network.now c.args.findings.now) (both_lines c)
     (ap (λ t. lines ++ t) (sym (append-nil verdict))))
     c.put_verdict.ensures.err
