@@ -1,7 +1,7 @@
 pub mod CauseLemmas
 mod ChannelLemmas
 mod DeliveryLemmas
-mod OnceLemmas
+pub mod OnceLemmas
 mod OutputLemmas
 mod PortLemmas
 mod TableLemmas
