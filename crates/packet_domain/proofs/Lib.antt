@@ -1,0 +1,12 @@
+mod AddLemmas
+mod ChangeLemmas
+mod DoneLemmas
+mod MoveLemmas
+mod NoteLemmas
+mod OfferLemmas
+mod OfferedLemmas
+mod PlaceLemmas
+mod ReactLemmas
+mod RoleLemmas
+mod StartLemmas
+mod StepLemmas

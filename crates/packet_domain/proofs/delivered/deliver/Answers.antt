@@ -1,0 +1,31 @@
+use Rattle.packet_domain.proofs.RoleLemmas.{delivered}
+use Rattle.packet_domain.proofs.MoveLemmas.{moves_by}
+use Rattle.packet_domain.proofs.delivered.deliver.Goals as goal
+
+pub returns-clause-offered : goal.returns-clause-offered
+returns-clause-offered g c =
+    let plan = c.args.net.now in
+    let inlet = c.args.inlet in
+    let exact = c.step_is_exact.ensures plan inlet.end c.args.p inlet.b inlet.port c.args.v c.fire.new.self.results
+    (record {
+      sound = c.sound.ensures;
+      leads = c.requires.inlet.leads;
+      packet_in_range = c.requires.packet;
+      fired = c.fire.ensures.fired;
+    }) in
+    delivered plan inlet.end c.args.p inlet.b c.args.v c.fire.new.self.results exact c.args.work.now
+    c.offer_results.new.work c.change_by_results.new.work c.offer_results.ensures c.change_by_results.ensures.offered
+
+pub returns-clause-adds : goal.returns-clause-adds
+returns-clause-adds g c =
+    let plan = c.args.net.now in
+    let inlet = c.args.inlet in
+    let exact = c.step_is_exact.ensures plan inlet.end c.args.p inlet.b inlet.port c.args.v c.fire.new.self.results
+    (record {
+      sound = c.sound.ensures;
+      leads = c.requires.inlet.leads;
+      packet_in_range = c.requires.packet;
+      fired = c.fire.ensures.fired;
+    }) in
+    moves_by plan inlet.end c.args.p inlet.b c.args.v c.fire.new.self.results exact c.args.moves.now
+    c.change_by_results.new.moves c.change_by_results.ensures.adds

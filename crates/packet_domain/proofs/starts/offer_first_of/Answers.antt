@@ -1,0 +1,21 @@
+use Rattle.std.proofs.Common.{ℕ, ◌<◌, ◌≤◌, List, ap, subst, ◌∙◌}
+use Rattle.header_set.specs.Headers.{product}
+use Rattle.net_plan.specs.Plan.{packets_of}
+use Rattle.packet_domain.specs.Reasons.{IsFirstAt}
+use Rattle.packet_domain.proofs.OfferedLemmas.{below_turn, below_all}
+use Rattle.packet_domain.proofs.starts.offer_first_of.Goals as goal
+
+pub loop-p-preserved : goal.loop-p-preserved
+loop-p-preserved g c =
+    let plan = c.args.net.now in
+    below_turn plan (packets_of plan) (λ (done : List ℕ) (k : ℕ). IsFirstAt plan c.args.b k) c.loop-p.p
+    c.args.work.now c.loop-p.work c.offer_first.new.work
+    (subst (λ (n : ℕ). c.loop-p.p < n) (c.count-p-end.ensures.product ∙ ap product c.headers.ensures) c.loop-p-test.true)
+    c.loop-p.invariant c.offer_first.ensures
+
+pub returns : goal.returns
+returns g c =
+    let plan = c.args.net.now in
+    below_all plan (packets_of plan) (λ (done : List ℕ) (k : ℕ). IsFirstAt plan c.args.b k) c.loop-p.p
+    c.args.work.now c.loop-p.work
+    (subst (λ (n : ℕ). n ≤ c.loop-p.p) (c.count-p-end.ensures.product ∙ ap product c.headers.ensures) c.loop-p-test.false) c.loop-p.invariant
