@@ -1,26 +1,31 @@
 -- Outcomes of loads have one reply, and words and files one answer.
 use Rattle.std.proofs.Common.{◌≡◌, ℕ, ◌<◌, List, [], ◌∷◌, Some, None, Result, Ok, Err, length, get_or, refl, sym, ap}
 use Rattle.std.proofs.Common.{subst, ◌∙◌, arith, codes}
+use Rattle.net_runs.specs.declared.world.Mode.{Mode}
+use Rattle.net_runs.specs.declared.world.Mode.TheVariants.{Unordered, Ordered}
 use Rattle.tree_rules.specs.Laws.{HasOneAnswer}
 use Rattle.network_file.specs.Laws.{OneReading}
 use Rattle.network_file.specs.declared.reading.ReadRefusal.{ReadRefusal}
 use Rattle.amdl_tree.specs.declared.tree.Tree.{Tree}
 use Rattle.net_plan.specs.declared.plan.Plan.{Plan}
 use Rattle.net_plan.specs.declared.fact.Fact.{Fact}
-use Rattle.net_plan.specs.Laws.{RisingIsUnique, LeastIsUnique}
+use Rattle.net_plan.specs.Laws.{RisingIsUnique}
+use Rattle.packet_state.specs.Laws.{LeastIsUnique}
 use Rattle.net_plan.specs.Fact.{ListsExactly}
-use Rattle.net_plan.specs.Plan.{HasNoBox}
 use Rattle.outside.specs.Files.{FileMap}
 use Rattle.plan_text.specs.Text.{report_of}
-use Rattle.amdl_app.specs.Analysis.{IsBadAmong}
+use Rattle.fact_sets.specs.Summary.{IsBadAmong}
+use Rattle.schedule_file.specs.Laws.{OneTelling}
 use Rattle.amdl_app.specs.Reply.{Reply, says, refuses}
-use Rattle.amdl_app.specs.Command.{Command, Analyse, Check, Format, Asks, Input, inputs_of}
+use Rattle.amdl_app.specs.Command.{Command, Analyse, Check, Format, Replay, replay_verb, Asks, Input, inputs_of}
 use Rattle.amdl_app.specs.Loaded.{Loaded, Found, Over, Lacking, Failed, Tells, EachComes}
-use Rattle.amdl_app.specs.Report.{IsReport, IsAnalysis, IsAnalysisOf, refused, boxed, reported, status_of}
+use Rattle.amdl_app.specs.Report.{IsReport, IsAnalysis, IsAnalysisOf, refused, reported, status_of}
 use Rattle.amdl_app.specs.Counts.{IsCheck, counted}
 use Rattle.amdl_app.specs.Formatting.{IsFormatting, formatted}
+use Rattle.amdl_app.specs.Replaying.{IsReplay}
 use Rattle.amdl_app.specs.Answer.{AfterNetwork, IsReplyTo, IsCommandReply, unasked, asked}
 use Rattle.amdl_app.specs.Laws.{ReplyIsUnique, AnswerIsUnique, StoresItsFile}
+use Rattle.amdl_app.proofs.ReplayLemmas.{replay_once, replay_stores}
 use Rattle.amdl_app.proofs.SpelledLemmas.{WhatIsFound, found_plan, not_refused, comes_once}
 
 -- what two calls of the same words ask for is the same
@@ -31,12 +36,15 @@ letter_of : Command → ℕ
 letter_of (Analyse network) = 97
 letter_of (Check network) = 99
 letter_of (Format network) = 102
+letter_of (Replay mode network schedule) = 114
 
 letter_asked : (words : List (List ℕ)) (command : Command) → Asks words command → verb_of words ≡ letter_of command
 unfolding verb_of letter_of
 letter_asked words (Analyse network) asks = ap verb_of asks
 letter_asked words (Check network) asks = ap verb_of asks
 letter_asked words (Format network) asks = ap verb_of asks
+letter_asked words (Replay Unordered network schedule) asks = ap verb_of asks
+letter_asked words (Replay Ordered network schedule) asks = ap verb_of asks
 
 same_letter : (words : List (List ℕ)) (one two : Command) → Asks words one → Asks words two →
     letter_of one ≡ letter_of two
@@ -50,6 +58,23 @@ same_network : (verb : List ℕ) (words : List (List ℕ)) (one two : List ℕ) 
     words ≡ verb ∷ two ∷ [] → one ≡ two
 same_network verb words one two first second = let e : verb ∷ one ∷ [] ≡ verb ∷ two ∷ [] = sym first ∙ second in cc
 
+-- the verb of a replay tells its mode, and the words behind it the files
+mode_is_told : (one two : Mode) → replay_verb one ≡ replay_verb two → one ≡ two
+mode_is_told Unordered Unordered e = refl
+mode_is_told Unordered Ordered e = absurd (let n : ◌≡◌ {A = ℕ} 6 14 = ap length e in omega arith)
+mode_is_told Ordered Unordered e = absurd (let n : ◌≡◌ {A = ℕ} 14 6 = ap length e in omega arith)
+mode_is_told Ordered Ordered e = refl
+
+same_replay : (words : List (List ℕ)) (mode other : Mode) (one two first second : List ℕ) →
+    Asks words (Replay mode one first) → Asks words (Replay other two second) →
+    Replay mode one first ≡ Replay other two second
+same_replay words mode other one two first second p q =
+    let both : replay_verb mode ∷ one ∷ first ∷ [] ≡ replay_verb other ∷ two ∷ second ∷ [] = sym p ∙ q in
+    let verb : replay_verb mode ≡ replay_verb other = cc in
+    let network : one ≡ two = cc in
+    let schedule : first ≡ second = cc in
+    λ i. Replay (mode_is_told mode other verb i) (network i) (schedule i)
+
 pub command_is_asked : (words : List (List ℕ)) (one two : Command) → Asks words one → Asks words two → one ≡ two
 unfolding letter_of
 command_is_asked words (Analyse one) (Analyse two) first second =
@@ -58,6 +83,8 @@ command_is_asked words (Check one) (Check two) first second =
     ap Check (same_network (codes "check") words one two first second)
 command_is_asked words (Format one) (Format two) first second =
     ap Format (same_network (codes "format") words one two first second)
+command_is_asked words (Replay mode one schedule) (Replay other two another) first second =
+    same_replay words mode other one two schedule another first second
 command_is_asked words (Analyse one) (Check two) first second =
     absurd (apart words (Analyse one) (Check two) first second (λ e. omega (arith, e)))
 command_is_asked words (Analyse one) (Format two) first second =
@@ -70,6 +97,18 @@ command_is_asked words (Format one) (Analyse two) first second =
     absurd (apart words (Format one) (Analyse two) first second (λ e. omega (arith, e)))
 command_is_asked words (Format one) (Check two) first second =
     absurd (apart words (Format one) (Check two) first second (λ e. omega (arith, e)))
+command_is_asked words (Analyse one) (Replay mode two schedule) first second =
+    absurd (apart words (Analyse one) (Replay mode two schedule) first second (λ e. omega (arith, e)))
+command_is_asked words (Check one) (Replay mode two schedule) first second =
+    absurd (apart words (Check one) (Replay mode two schedule) first second (λ e. omega (arith, e)))
+command_is_asked words (Format one) (Replay mode two schedule) first second =
+    absurd (apart words (Format one) (Replay mode two schedule) first second (λ e. omega (arith, e)))
+command_is_asked words (Replay mode one schedule) (Analyse two) first second =
+    absurd (apart words (Replay mode one schedule) (Analyse two) first second (λ e. omega (arith, e)))
+command_is_asked words (Replay mode one schedule) (Check two) first second =
+    absurd (apart words (Replay mode one schedule) (Check two) first second (λ e. omega (arith, e)))
+command_is_asked words (Replay mode one schedule) (Format two) first second =
+    absurd (apart words (Replay mode one schedule) (Format two) first second (λ e. omega (arith, e)))
 
 -- a map tells one outcome of a load
 found_over : (files : FileMap) (input : Input) (text : List ℕ) → Tells files input (Found text) →
@@ -130,11 +169,11 @@ abbrev report_reply : Plan → List Fact → List Fact → Reply
 report_reply plan facts bad = says (status_of bad) (report_of plan facts bad)
 
 module _ (one_reading : OneReading) (one_check : HasOneAnswer) (one_rising : RisingIsUnique)
-    (one_least : LeastIsUnique) where
-  report_is_one : (plan : Plan) (one two : Reply) → HasNoBox plan → IsReport plan one → IsReport plan two → one ≡ two
-  report_is_one plan one two no_box first second =
+    (one_least : LeastIsUnique) (one_telling : OneTelling) where
+  report_is_one : (plan : Plan) (one two : Reply) → IsReport plan one → IsReport plan two → one ≡ two
+  report_is_one plan one two first second =
       let facts : first.facts ≡ second.facts =
-      one_least plan first.facts second.facts no_box first.least second.least in
+      one_least plan first.facts second.facts first.least second.least in
       let listed : ListsExactly (IsBadAmong plan first.facts) second.bad =
       subst (λ (f : List Fact). ListsExactly (IsBadAmong plan f) second.bad) (sym facts) second.bad_ones in
       let bad : first.bad ≡ second.bad = one_rising first.bad second.bad first.bad_ones.rising listed.rising
@@ -149,21 +188,12 @@ module _ (one_reading : OneReading) (one_check : HasOneAnswer) (one_rising : Ris
   analysed_once found one two (refused refusal is e) (refused other is' e') =
       let both : ◌≡◌ {A = WhatIsFound} (Err refusal) (Err other) = sym is ∙ is' in
       let same : refusal ≡ other = cc in e ∙ ap refuses same ∙ sym e'
-  analysed_once found one two (refused refusal is e) (boxed plan is' box e') =
+  analysed_once found one two (refused refusal is e) (reported plan is' report) =
       absurd (not_refused refusal plan found is is')
-  analysed_once found one two (refused refusal is e) (reported plan is' no_box report) =
-      absurd (not_refused refusal plan found is is')
-  analysed_once found one two (boxed plan is box e) (refused refusal is' e') =
+  analysed_once found one two (reported plan is report) (refused refusal is' e) =
       absurd (not_refused refusal plan found is' is)
-  analysed_once found one two (boxed plan is box e) (boxed other is' box' e') = e ∙ sym e'
-  analysed_once found one two (boxed plan is box e) (reported other is' no_box report) =
-      absurd (box (subst HasNoBox (found_plan other plan found is' is) no_box))
-  analysed_once found one two (reported plan is no_box report) (refused refusal is' e) =
-      absurd (not_refused refusal plan found is' is)
-  analysed_once found one two (reported plan is no_box report) (boxed other is' box e) =
-      absurd (box (subst HasNoBox (found_plan plan other found is is') no_box))
-  analysed_once found one two (reported plan is no_box report) (reported other is' no_box' report') =
-      report_is_one plan one two no_box report
+  analysed_once found one two (reported plan is report) (reported other is' report') =
+      report_is_one plan one two report
       (subst (λ (p : Plan). IsReport p two) (found_plan other plan found is' is) report')
 
   analysis_is_one : (text : List ℕ) (one two : Reply) → IsAnalysis text one → IsAnalysis text two → one ≡ two
@@ -190,6 +220,9 @@ module _ (one_reading : OneReading) (one_check : HasOneAnswer) (one_rising : Ris
   reply_is_one (Check network) = after_once network (λ text others. IsCheck text) (λ text others. check_is_one text)
   reply_is_one (Format network) =
       after_once network (λ text others. IsFormatting text) (λ text others. formatting_is_one text)
+  reply_is_one (Replay mode network schedule) =
+      after_once network (λ text others. IsReplay mode schedule text others)
+      (λ text others. replay_once one_reading one_check one_telling mode schedule text others)
 
   command_reply_is_one : (files : FileMap) (command : Command) (one two : Reply) →
       IsCommandReply (Tells files) command one → IsCommandReply (Tells files) command two → one ≡ two
@@ -219,8 +252,7 @@ stores_nothing name goes_on none (Failed ∷ others) reply p = ap (λ (r : Reply
 
 analysed_stores : (found : WhatIsFound) (reply : Reply) → IsAnalysisOf found reply → reply.stored ≡ None
 analysed_stores found reply (refused refusal is e) = ap (λ (r : Reply). r.stored) e
-analysed_stores found reply (boxed plan is box e) = ap (λ (r : Reply). r.stored) e
-analysed_stores found reply (reported plan is no_box report) = ap (λ (r : Reply). r.stored) report.told
+analysed_stores found reply (reported plan is report) = ap (λ (r : Reply). r.stored) report.told
 
 analysis_stores : (text : List ℕ) (reply : Reply) → IsAnalysis text reply → reply.stored ≡ None
 analysis_stores text reply a = analysed_stores a.found reply a.analysed
@@ -249,3 +281,7 @@ stores_own_file (Check network) loads reply p file stored =
 stores_own_file (Format network) loads reply p file stored =
     absurd (let none = stores_nothing network (λ text others. IsFormatting text)
     (λ text others. formatting_stores text) loads reply p in let both : None ≡ Some file = sym none ∙ stored in cc)
+stores_own_file (Replay mode network schedule) loads reply p file stored =
+    absurd (let none = stores_nothing network (λ text others. IsReplay mode schedule text others)
+    (λ text others. replay_stores mode schedule text others) loads reply p in
+    let both : None ≡ Some file = sym none ∙ stored in cc)

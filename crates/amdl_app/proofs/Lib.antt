@@ -1,7 +1,10 @@
 mod AnswerLemmas
-mod Listing
 mod LoadLemmas
 mod PromiseLemmas
+mod ReplayKinds
+mod ReplayLemmas
+mod ReplayPromiseLemmas
+mod ReplyKinds
 mod SafeLemmas
 mod SpelledLemmas
 mod Words

@@ -1,34 +1,34 @@
 -- A call of the program keeps each promise.
 use Rattle.std.proofs.Common.{◌≡◌, ℕ, ◌≤◌, ◌⊎◌, inl, inr, List, [], ◌∷◌, Option, Some, None, Result, Ok, Err, refl, sym}
 use Rattle.std.proofs.Common.{ap, subst, ◌∙◌, arith}
-use Rattle.std.specs.List.{Contains}
 use Rattle.std.specs.Io.KnownBytes.{append_known}
 use Rattle.std.proofs.lemmas.List.{append-nil}
-use Rattle.std.proofs.lemmas.List.Elements.{Contains-push}
 use Rattle.amdl_tree.specs.declared.tree.Tree.{Tree}
 use Rattle.net_plan.specs.declared.fact.Fact.{Fact}
 use Rattle.network_file.specs.declared.reading.ReadRefusal.{ReadRefusal}
 use Rattle.outside.specs.Faults.{Rose}
-use Rattle.outside.specs.Files.{FileMap, LacksFile}
+use Rattle.outside.specs.Files.{FileMap}
 use Rattle.outside.specs.Sink.{AppendsFront}
-use Rattle.plan_text.specs.Messages.{usage_text, missing_text, fault_load_text}
+use Rattle.plan_text.specs.Messages.{usage_text}
 use Rattle.plan_text.specs.declared.refusal.NetworkRefusal.{NetworkRefusal}
-use Rattle.plan_text.specs.declared.refusal.NetworkRefusal.TheVariants.{TooLong, FirstForm}
 use Rattle.amdl_app.specs.Reply.{Reply, says, refuses}
-use Rattle.amdl_app.specs.Command.{Command, Analyse, Check, Format, Asks, AskNothing, Input, LoadsFile, network_input}
-use Rattle.amdl_app.specs.Command.{inputs_of}
-use Rattle.amdl_app.specs.Loaded.{Loaded, Found, Over, Lacking, Failed, Tells, MayCome, EachComes}
-use Rattle.amdl_app.specs.Report.{IsAnalysis, IsAnalysisOf, refused, boxed, reported, status_of}
+use Rattle.amdl_app.specs.Command.{Analyse, Check, Format, Replay, Asks, AskNothing, LoadsFile}
+use Rattle.amdl_app.specs.Loaded.{MayCome}
+use Rattle.amdl_app.specs.Report.{IsAnalysis, IsAnalysisOf, refused, reported, status_of}
 use Rattle.amdl_app.specs.Counts.{IsCheck, counted}
 use Rattle.amdl_app.specs.Formatting.{IsFormatting, formatted}
 use Rattle.amdl_app.specs.Spelled.{refusal_of}
-use Rattle.amdl_app.specs.Answer.{AfterNetwork, IsReply, IsAnswer, unasked, asked}
+use Rattle.amdl_app.specs.Answer.{IsReply, IsAnswer, unasked, asked}
 use Rattle.amdl_app.specs.Laws.{AnswerIsUnique}
 use Rattle.amdl_app.specs.Outcome.{whole, failed, unfinished, IsCall, no_memory, replied}
 use Rattle.amdl_app.specs.Promises.{GivesAnswer, AnswersUpToThree, AnswersUnhindered, UsageIsRight, HasRefusal}
+use Rattle.amdl_app.specs.Promises.{IsRefusal, of_network}
 use Rattle.amdl_app.specs.Promises.{RefusalIsRight, IsFileFault, lacks, fails, FileFaultIsRight, SinkFaultIsRight}
 use Rattle.amdl_app.specs.Promises.{IsCut, nothing, part, fault, CutsAreFronts}
 use Rattle.amdl_app.specs.Seen.{FilesSeen, Seen, WhereTold}
+use Rattle.amdl_app.proofs.ReplyKinds.{Kind, usage, good, refusing, lacking, failing, IsFault, refusal_is_three}
+use Rattle.amdl_app.proofs.ReplyKinds.{after_kind, after_tells, loads_first}
+use Rattle.amdl_app.proofs.ReplayKinds.{replay_kind, replay_tells}
 use Rattle.amdl_app.proofs.SpelledLemmas.{WhatIsFound}
 
 -- what a reply to a text is
@@ -42,8 +42,7 @@ report_status (fact ∷ facts) = omega arith
 
 analysed_kind : (found : WhatIsFound) (reply : Reply) → IsAnalysisOf found reply → TextKind reply
 analysed_kind found reply (refused refusal is e) = ill refusal e
-analysed_kind found reply (boxed plan is box e) = ill FirstForm e
-analysed_kind found reply (reported plan is no_box report) =
+analysed_kind found reply (reported plan is report) =
     let s : reply.status ≡ status_of report.bad =
     ap (λ (r : Reply). r.status) report.told in well (omega (arith, report_status report.bad))
 
@@ -64,126 +63,60 @@ formatted_kind (Err refusal) reply e = ill (refusal_of refusal) e
 formatting_kind : (text : List ℕ) (reply : Reply) → IsFormatting text reply → TextKind reply
 formatting_kind text reply f = formatted_kind f.reading reply f.told
 
--- what a reply is
-data Kind (words : List (List ℕ)) (before after : FilesSeen) (reply : Reply) : Type 0 where
-  usage : AskNothing words → reply ≡ says 2 usage_text → Kind words before after reply
-  good : reply.status ≤ 1 → Kind words before after reply
-  refusing : (refusal : NetworkRefusal) → reply ≡ refuses refusal → Kind words before after reply
-  lacking : (name : List ℕ) → LoadsFile words name → LacksFile before.told name before.faults after.faults →
-      reply ≡ says 4 (missing_text name) → Kind words before after reply
-  failing : (name : List ℕ) → LoadsFile words name → Rose before.faults after.faults →
-      reply ≡ says 4 (fault_load_text name) → Kind words before after reply
-
 of_text : (words : List (List ℕ)) (before after : FilesSeen) (reply : Reply) → TextKind reply →
     Kind words before after reply
 of_text words before after reply (well small) = good small
-of_text words before after reply (ill refusal e) = refusing refusal e
-
--- loading a file of the command failed
-pub record IsFault (words : List (List ℕ)) (before after : FilesSeen) (reply : Reply) : Type 0 where
-  pub rose : Rose before.faults after.faults
-  pub name : List ℕ
-  pub loads : LoadsFile words name
-  pub told : reply ≡ says 4 (fault_load_text name)
-
--- an outcome is what the map tells, or a failure
-may_tells : (before after : FilesSeen) (files : FileMap) → before.told ≡ Some files →
-    (input : Input) (loaded : Loaded) → MayCome before after input loaded →
-    Tells files input loaded ⊎ ((loaded ≡ Failed) × Rose before.faults after.faults)
-may_tells before after files is input (Found text) may = inl (may.0, may.1 files is)
-may_tells before after files is input Over may = inl (may files is)
-may_tells before after files is input Lacking may = inl (may.absent files is)
-may_tells before after files is input Failed may = inr (refl, may)
-
--- a command that loads one network
-module _ (words : List (List ℕ)) (before after : FilesSeen) (name : List ℕ) (there : LoadsFile words name)
-    (goes_on : List ℕ → List Loaded → Reply → Type 0) where
-  abbrev Comes : (Input → Loaded → Type 0) → List Loaded → Type 0
-  Comes comes loads = EachComes comes (network_input name ∷ []) loads
-
-  after_kind : ((text : List ℕ) (others : List Loaded) (reply : Reply) → goes_on text others reply → TextKind reply) →
-      (loads : List Loaded) (reply : Reply) → Comes (MayCome before after) loads →
-      AfterNetwork name goes_on loads reply → Kind words before after reply
-  after_kind kind [] reply each p = absurd each
-  after_kind kind (loaded ∷ other ∷ others) reply each p = absurd each.1
-  after_kind kind (Found text ∷ []) reply each p = of_text words before after reply (kind text [] reply p)
-  after_kind kind (Over ∷ []) reply each p = refusing TooLong p
-  after_kind kind (Lacking ∷ []) reply each p = lacking name there each.0 p
-  after_kind kind (Failed ∷ []) reply each p = failing name there each.0 p
-
-  after_tells : (files : FileMap) → before.told ≡ Some files → (loads : List Loaded) (reply : Reply) →
-      Comes (MayCome before after) loads → AfterNetwork name goes_on loads reply →
-      Comes (Tells files) loads ⊎ IsFault words before after reply
-  after_tells files is [] reply each p = absurd each
-  after_tells files is (loaded ∷ other ∷ others) reply each p = absurd each.1
-  after_tells files is (loaded ∷ []) reply each p =
-      elim (may_tells before after files is (network_input name) loaded each.0) [
-        | inl told ↦ inl (told, tt)
-        | inr failure ↦ inr
-            (record {
-              rose = failure.1;
-              name = name;
-              loads = there;
-              told = subst
-                  (λ (l : Loaded). AfterNetwork name goes_on (l ∷ []) reply) failure.0 p;
-            })
-      ]
-
-loads_one : (words : List (List ℕ)) (command : Command) (name : List ℕ) → Asks words command →
-    inputs_of command ≡ network_input name ∷ [] → LoadsFile words name
-loads_one words command name asks one =
-    record {
-      command = command;
-      asks = asks;
-      input = network_input name;
-      loads = subst
-          (λ (inputs : List Input). Contains inputs (network_input name)) (sym one)
-          (Contains-push [] (network_input name));
-      named = refl;
-    }
+of_text words before after reply (ill refusal e) = refusing (of_network refusal e)
 
 module _ (words : List (List ℕ)) (before after : FilesSeen) where
   analyses : (network : List ℕ) → Asks words (Analyse network) → LoadsFile words network
-  analyses network asks = loads_one words (Analyse network) network asks refl
+  analyses network asks = loads_first words (Analyse network) network [] asks refl
 
   checks : (network : List ℕ) → Asks words (Check network) → LoadsFile words network
-  checks network asks = loads_one words (Check network) network asks refl
+  checks network asks = loads_first words (Check network) network [] asks refl
 
   formats : (network : List ℕ) → Asks words (Format network) → LoadsFile words network
-  formats network asks = loads_one words (Format network) network asks refl
+  formats network asks = loads_first words (Format network) network [] asks refl
 
   kind_of : (reply : Reply) → IsReply (MayCome before after) words reply → Kind words before after reply
   kind_of reply (unasked none e) = usage none e
   kind_of reply (asked (Analyse network) asks (loads, each, p)) =
-      after_kind words before after network (analyses network asks) (λ text others. IsAnalysis text)
-      (λ text others. analysis_kind text) loads reply each p
+      after_kind words before after network [] (analyses network asks) (λ text others. IsAnalysis text)
+      (λ text others told none a. of_text words before after told (analysis_kind text told a)) loads reply each p
   kind_of reply (asked (Check network) asks (loads, each, p)) =
-      after_kind words before after network (checks network asks) (λ text others. IsCheck text)
-      (λ text others. check_kind text) loads reply each p
+      after_kind words before after network [] (checks network asks) (λ text others. IsCheck text)
+      (λ text others told none c. of_text words before after told (check_kind text told c)) loads reply each p
   kind_of reply (asked (Format network) asks (loads, each, p)) =
-      after_kind words before after network (formats network asks) (λ text others. IsFormatting text)
-      (λ text others. formatting_kind text) loads reply each p
+      after_kind words before after network [] (formats network asks) (λ text others. IsFormatting text)
+      (λ text others told none f. of_text words before after told (formatting_kind text told f)) loads reply each p
+  kind_of reply (asked (Replay mode network schedule) asks (loads, each, p)) =
+      replay_kind words before after mode network schedule asks loads reply each p
 
   -- what the work comes to is the answer, or the text of a fault
   pub reply_answers : (files : FileMap) (reply : Reply) → before.told ≡ Some files →
       IsReply (MayCome before after) words reply → IsAnswer words files reply ⊎ IsFault words before after reply
   reply_answers files reply is (unasked none e) = inl (unasked none e)
   reply_answers files reply is (asked (Analyse network) asks (loads, each, p)) =
-      elim (after_tells words before after network (analyses network asks)
-      (λ text others. IsAnalysis text) files is loads reply each p) [
-        | inl told ↦ inl (asked (Analyse network) asks (loads, told, p))
+      elim (after_tells words before after network [] (analyses network asks)
+      (λ text others. IsAnalysis text) files is (λ text others told none a. inl ([], tt, a)) loads reply each p) [
+        | inl told ↦ inl (asked (Analyse network) asks told)
         | inr failure ↦ inr failure
       ]
   reply_answers files reply is (asked (Check network) asks (loads, each, p)) =
-      elim (after_tells words before after network (checks network asks)
-      (λ text others. IsCheck text) files is loads reply each p) [
-        | inl told ↦ inl (asked (Check network) asks (loads, told, p))
+      elim (after_tells words before after network [] (checks network asks)
+      (λ text others. IsCheck text) files is (λ text others told none c. inl ([], tt, c)) loads reply each p) [
+        | inl told ↦ inl (asked (Check network) asks told)
         | inr failure ↦ inr failure
       ]
   reply_answers files reply is (asked (Format network) asks (loads, each, p)) =
-      elim (after_tells words before after network (formats network asks)
-      (λ text others. IsFormatting text) files is loads reply each p) [
-        | inl told ↦ inl (asked (Format network) asks (loads, told, p))
+      elim (after_tells words before after network [] (formats network asks)
+      (λ text others. IsFormatting text) files is (λ text others told none f. inl ([], tt, f)) loads reply each p) [
+        | inl told ↦ inl (asked (Format network) asks told)
+        | inr failure ↦ inr failure
+      ]
+  reply_answers files reply is (asked (Replay mode network schedule) asks (loads, each, p)) =
+      elim (replay_tells words before after mode network schedule asks files is loads reply each p) [
+        | inl told ↦ inl (asked (Replay mode network schedule) asks told)
         | inr failure ↦ inr failure
       ]
 
@@ -191,7 +124,7 @@ module _ (words : List (List ℕ)) (before after : FilesSeen) where
   kind_status : (reply : Reply) → Kind words before after reply → reply.status ≤ 4
   kind_status reply (usage none e) = let s : reply.status ≡ 2 = ap (λ (r : Reply). r.status) e in omega arith
   kind_status reply (good small) = omega arith
-  kind_status reply (refusing refusal e) = let s : reply.status ≡ 3 = ap (λ (r : Reply). r.status) e in omega arith
+  kind_status reply (refusing refusal) = let s : reply.status ≡ 3 = refusal_is_three words reply refusal in omega arith
   kind_status reply (lacking name there lack e) =
       let s : reply.status ≡ 4 = ap (λ (r : Reply). r.status) e in omega arith
   kind_status reply (failing name there rose e) =
@@ -204,19 +137,18 @@ module _ (words : List (List ℕ)) (before after : FilesSeen) where
       AskNothing words × (reply ≡ says 2 usage_text)
   two_is_usage reply (usage none e) two = (none, e)
   two_is_usage reply (good small) two = absurd (omega arith)
-  two_is_usage reply (refusing refusal e) two =
-      let s : reply.status ≡ 3 = ap (λ (r : Reply). r.status) e in absurd (omega arith)
+  two_is_usage reply (refusing refusal) two =
+      let s : reply.status ≡ 3 = refusal_is_three words reply refusal in absurd (omega arith)
   two_is_usage reply (lacking name there lack e) two =
       let s : reply.status ≡ 4 = ap (λ (r : Reply). r.status) e in absurd (omega arith)
   two_is_usage reply (failing name there rose e) two =
       let s : reply.status ≡ 4 = ap (λ (r : Reply). r.status) e in absurd (omega arith)
 
-  three_is_refusal : (reply : Reply) → Kind words before after reply → reply.status ≡ 3 →
-      (refusal : NetworkRefusal) × (reply ≡ refuses refusal)
+  three_is_refusal : (reply : Reply) → Kind words before after reply → reply.status ≡ 3 → IsRefusal words reply
   three_is_refusal reply (usage none e) three =
       let s : reply.status ≡ 2 = ap (λ (r : Reply). r.status) e in absurd (omega arith)
   three_is_refusal reply (good small) three = absurd (omega arith)
-  three_is_refusal reply (refusing refusal e) three = (refusal, e)
+  three_is_refusal reply (refusing refusal) three = refusal
   three_is_refusal reply (lacking name there lack e) three =
       let s : reply.status ≡ 4 = ap (λ (r : Reply). r.status) e in absurd (omega arith)
   three_is_refusal reply (failing name there rose e) three =
@@ -345,16 +277,14 @@ module _ (words : List (List ℕ)) (before after : Seen) (status : ℕ) where
   -- refusals
   refused_reply : (files : FileMap) (reply : Reply) → before.files.told ≡ Some files → Replies reply →
       reply.status ≡ 3 → HasRefusal words files
-  refused_reply files reply is p three =
-      let refused =
-      three_is_refusal words before.files after.files reply
-      (kind_of words before.files after.files reply p) three in (
-        refused.0,
-        subst (IsAnswer words files) refused.1 (elim (reply_answers words before.files after.files files reply is p) [
-          | inl answer ↦ answer
-          | inr failure ↦ let four : reply.status ≡ 4 = fault_is_four reply failure in absurd (omega arith)
-        ]),
-      )
+  refused_reply files reply is p three = (
+    reply,
+    three_is_refusal words before.files after.files reply (kind_of words before.files after.files reply p) three,
+    elim (reply_answers words before.files after.files files reply is p) [
+      | inl answer ↦ answer
+      | inr failure ↦ let four : reply.status ≡ 4 = fault_is_four reply failure in absurd (omega arith)
+    ],
+  )
 
   refusal_only : Called → status ≡ 3 → WhereTold before.files (HasRefusal words)
   refusal_only (no_memory s e f) three files is = absurd (omega arith)
@@ -365,10 +295,11 @@ module _ (words : List (List ℕ)) (before after : Seen) (status : ℕ) where
   module _ (one_answer : AnswerIsUnique) where
     refusing_status : (files : FileMap) (reply : Reply) → before.files.told ≡ Some files → HasRefusal words files →
         Replies reply → 3 ≤ reply.status
-    refusing_status files reply is (refusal, answer) p =
+    refusing_status files reply is (denied, refusal, answer) p =
         elim (reply_answers words before.files after.files files reply is p) [
           | inl other ↦ let s : reply.status ≡ 3 =
-              ap (λ (r : Reply). r.status) (one_answer words files reply (refuses refusal) other answer) in omega arith
+              ap (λ (r : Reply). r.status) (one_answer words files reply denied other answer)
+              ∙ refusal_is_three words denied refusal in omega arith
           | inr failure ↦ let four : reply.status ≡ 4 = fault_is_four reply failure in omega arith
         ]
 
@@ -391,8 +322,8 @@ module _ (words : List (List ℕ)) (before after : Seen) (status : ℕ) where
   four_is_fault reply e (usage none e') four =
       let s : reply.status ≡ 2 = ap (λ (r : Reply). r.status) e' in absurd (omega arith)
   four_is_fault reply e (good small) four = absurd (omega arith)
-  four_is_fault reply e (refusing refusal e') four =
-      let s : reply.status ≡ 3 = ap (λ (r : Reply). r.status) e' in absurd (omega arith)
+  four_is_fault reply e (refusing refusal) four =
+      let s : reply.status ≡ 3 = refusal_is_three words reply refusal in absurd (omega arith)
   four_is_fault reply e (lacking name there lack e') four =
       lacks name there lack (e ∙ ap (λ (r : Reply). append_known before.sink.written r.text) e')
   four_is_fault reply e (failing name there rose e') four =

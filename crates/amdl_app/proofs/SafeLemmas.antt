@@ -7,8 +7,7 @@ use Rattle.std.proofs.lemmas.List.{append-nil, append_cancel_left}
 use Rattle.std.proofs.lemmas.List.Elements.{Contains-append_left, Contains-push}
 use Rattle.net_plan.specs.declared.plan.Plan.{Plan}
 use Rattle.net_plan.specs.declared.fact.Fact.{Fact}
-use Rattle.net_plan.specs.Plan.{HasNoBox}
-use Rattle.net_runs.specs.Laws.{SafeNetworkRunsSafely}
+use Rattle.packet_state.specs.Laws.{SafeNetworkRunsSafely}
 use Rattle.tree_rules.specs.Laws.{HasOneAnswer}
 use Rattle.network_file.specs.Laws.{OneReading}
 use Rattle.outside.specs.Faults.{Rose}
@@ -18,12 +17,12 @@ use Rattle.plan_text.specs.Messages.{usage_text, refused_network, missing_text, 
 use Rattle.plan_text.specs.Prints.{PrintsSafe}
 use Rattle.plan_text.specs.Laws.{SafeIsTold, MessagesAreNotSafe}
 use Rattle.plan_text.specs.declared.refusal.NetworkRefusal.{NetworkRefusal}
-use Rattle.plan_text.specs.declared.refusal.NetworkRefusal.TheVariants.{TooLong, FirstForm}
+use Rattle.plan_text.specs.declared.refusal.NetworkRefusal.TheVariants.{TooLong}
 use Rattle.amdl_app.specs.Reply.{Reply, says, refuses}
 use Rattle.amdl_app.specs.Command.{Command, Analyse, Check, Asks, network_input, text_limit}
 use Rattle.amdl_app.specs.Counts.{IsCheck, counted}
 use Rattle.amdl_app.specs.Loaded.{Loaded, Found, Over, Lacking, Failed, EachComes, MayCome}
-use Rattle.amdl_app.specs.Report.{IsReport, IsAnalysis, IsAnalysisOf, refused, boxed, reported, status_of, HasNoBad}
+use Rattle.amdl_app.specs.Report.{IsReport, IsAnalysis, IsAnalysisOf, refused, reported, status_of, HasNoBad}
 use Rattle.amdl_app.specs.Report.{HasBad}
 use Rattle.amdl_app.specs.Answer.{AfterNetwork, IsCommandReply, IsReply, unasked, asked}
 use Rattle.amdl_app.specs.Outcome.{whole, failed, unfinished, IsCall, no_memory, replied}
@@ -32,9 +31,11 @@ use Rattle.amdl_app.specs.Promises.{AnalysisIsRight, CountsOnly, CountsIf}
 use Rattle.amdl_app.specs.Seen.{FilesSeen, Seen, WhereTold}
 use Rattle.amdl_app.specs.Spelled.{ComesTo}
 use Rattle.amdl_app.proofs.AnswerLemmas.{command_is_asked}
-use Rattle.amdl_app.proofs.Listing.{none_there}
 use Rattle.amdl_app.proofs.SpelledLemmas.{WhatIsFound, Spells, spells, found_plan, not_refused, comes_once}
 use Rattle.amdl_app.proofs.SpelledLemmas.{comes_to_plan}
+
+none_there : {X : Type 0} (x : X) → Contains [] x → ⊥
+none_there x there = let less : there.0 < 0 = there.1 in absurd (omega arith)
 
 report_is_safe : (plan : Plan) (reply : Reply) (report : IsReport plan reply) → report.bad ≡ [] → HasNoBad plan
 report_is_safe plan reply report none fact derivable bad =
@@ -109,17 +110,16 @@ record IsFoundSafe (before : FilesSeen) (network : List ℕ) : Type 0 where
   safe : IsSafeText text
 
 module _ (runs : SafeNetworkRunsSafely) where
-  safe_text : (text : List ℕ) (plan : Plan) (reply : Reply) → Spells text plan → HasNoBox plan →
+  safe_text : (text : List ℕ) (plan : Plan) (reply : Reply) → Spells text plan →
       (report : IsReport plan reply) → report.bad ≡ [] → IsSafeText text
-  safe_text text plan reply spelled no_box report none =
+  safe_text text plan reply spelled report none =
       let no_bad : HasNoBad plan = report_is_safe plan reply report none in record {
         tree = spelled.tree;
         plan = plan;
         file = spelled.file;
         network = spelled.network;
-        no_box = no_box;
         no_bad_fact = no_bad;
-        no_bad_run = runs plan report.facts no_box report.least
+        no_bad_run = runs plan report.facts spelled.network.sound report.least
             (λ fact there bad. no_bad fact ((report.least.member fact).0 there) bad);
       }
 
@@ -127,10 +127,8 @@ module _ (runs : SafeNetworkRunsSafely) where
       IsAnalysisOf found reply → reply.status ≡ 0 → IsSafeText text
   zero_analysed text found reply comes (refused refusal is e) zero' =
       let s : reply.status ≡ 3 = ap (λ (r : Reply). r.status) e in absurd (omega arith)
-  zero_analysed text found reply comes (boxed plan is box e) zero' =
-      let s : reply.status ≡ 3 = ap (λ (r : Reply). r.status) e in absurd (omega arith)
-  zero_analysed text found reply comes (reported plan is no_box report) zero' =
-      safe_text text plan reply (spells text plan found is comes) no_box report
+  zero_analysed text found reply comes (reported plan is report) zero' =
+      safe_text text plan reply (spells text plan found is comes) report
       (no_status report.bad (sym (ap (λ (r : Reply). r.status) report.told) ∙ zero'))
 
   module _ (safe_is_told : SafeIsTold) (messages : MessagesAreNotSafe) where
@@ -139,11 +137,9 @@ module _ (runs : SafeNetworkRunsSafely) where
         IsSafeText text
     front_analysed text found reply comes (refused refusal is e) front rest cut prints =
         absurd (messages.refused refusal front rest (sym (ap (λ (r : Reply). r.text) e) ∙ cut) prints)
-    front_analysed text found reply comes (boxed plan is box e) front rest cut prints =
-        absurd (messages.refused FirstForm front rest (sym (ap (λ (r : Reply). r.text) e) ∙ cut) prints)
-    front_analysed text found reply comes (reported plan is no_box report) front rest cut prints =
+    front_analysed text found reply comes (reported plan is report) front rest cut prints =
         let spelled = spells text plan found is comes in
-        safe_text text plan reply spelled no_box report
+        safe_text text plan reply spelled report
         (safe_is_told plan report.facts report.bad front rest spelled.network.sound.names.named
         (sym (ap (λ (r : Reply). r.text) report.told) ∙ cut) prints)
 
@@ -242,52 +238,36 @@ module _ (words : List (List ℕ)) (before after : Seen) (status : ℕ) where
 
 -- what a reply says of the network that a text spells
 record ReplyIsRight (plan : Plan) (reply : Reply) : Type 0 where
-  safe : reply.status ≡ 0 → HasNoBox plan × HasNoBad plan
-  alarm : reply.status ≡ 1 → HasNoBox plan × HasBad plan
-  accepted : HasNoBox plan → reply.status ≢ 3
-  refused' : (HasNoBox plan → ⊥) → reply.status ≤ 3 → reply ≡ refuses FirstForm
+  safe : reply.status ≡ 0 → HasNoBad plan
+  alarm : reply.status ≡ 1 → HasBad plan
+  small : reply.status ≤ 1
 
-boxed_is_right : (plan : Plan) (reply : Reply) → (HasNoBox plan → ⊥) → reply ≡ refuses FirstForm →
-    ReplyIsRight plan reply
-boxed_is_right plan reply box e =
-    let s : reply.status ≡ 3 = ap (λ (r : Reply). r.status) e in record {
-      safe = λ zero'. absurd (omega arith);
-      alarm = λ one. absurd (omega arith);
-      accepted = λ no_box. absurd (box no_box);
-      refused' = λ box' small. e;
-    }
+small_status : (bad : List Fact) → status_of bad ≤ 1
+small_status [] = omega arith
+small_status (fact ∷ facts) = omega arith
 
-small_status : (bad : List Fact) → status_of bad ≡ 3 → ⊥
-small_status [] three = absurd (omega arith)
-small_status (fact ∷ facts) three = absurd (omega arith)
-
-report_is_right : (plan : Plan) (reply : Reply) → HasNoBox plan → IsReport plan reply → ReplyIsRight plan reply
-report_is_right plan reply no_box report =
+report_is_right : (plan : Plan) (reply : Reply) → IsReport plan reply → ReplyIsRight plan reply
+report_is_right plan reply report =
     let is : reply.status ≡ status_of report.bad = ap (λ (r : Reply). r.status) report.told in record {
-      safe = λ zero'. (no_box, report_is_safe plan reply report (no_status report.bad (sym is ∙ zero')));
+      safe = λ zero'. report_is_safe plan reply report (no_status report.bad (sym is ∙ zero'));
       alarm = λ one. let some = some_status report.bad (sym is ∙ one) in
-          (no_box, alarm_is_bad plan reply report some.0 some.1 some.2);
-      accepted = λ none three. small_status report.bad (sym is ∙ three);
-      refused' = λ box. absurd (box no_box);
+          alarm_is_bad plan reply report some.0 some.1 some.2;
+      small = subst (λ n. n ≤ 1) (sym is) (small_status report.bad);
     }
 
 analysed_is_right : (plan : Plan) (found : WhatIsFound) (reply : Reply) → found ≡ Ok plan → IsAnalysisOf found reply →
     ReplyIsRight plan reply
 analysed_is_right plan found reply comes (refused refusal is e) = absurd (not_refused refusal plan found is comes)
-analysed_is_right plan found reply comes (boxed other is box e) =
+analysed_is_right plan found reply comes (reported other is report) =
     let same : other ≡ plan = found_plan other plan found is comes in
-    subst (λ (p : Plan). ReplyIsRight p reply) same (boxed_is_right other reply box e)
-analysed_is_right plan found reply comes (reported other is no_box report) =
-    let same : other ≡ plan = found_plan other plan found is comes in
-    subst (λ (p : Plan). ReplyIsRight p reply) same (report_is_right other reply no_box report)
+    subst (λ (p : Plan). ReplyIsRight p reply) same (report_is_right other reply report)
 
 analysed_refused : (refusal : NetworkRefusal) (found : WhatIsFound) (reply : Reply) → found ≡ Err refusal →
     IsAnalysisOf found reply → reply ≡ refuses refusal
 analysed_refused refusal found reply comes (refused other is e) =
     let both : ◌≡◌ {A = WhatIsFound} (Err other) (Err refusal) = sym is ∙ comes in
     let same : other ≡ refusal = cc in e ∙ ap refuses same
-analysed_refused refusal found reply comes (boxed plan is box e) = absurd (not_refused refusal plan found comes is)
-analysed_refused refusal found reply comes (reported plan is no_box report) =
+analysed_refused refusal found reply comes (reported plan is report) =
     absurd (not_refused refusal plan found comes is)
 
 -- a file that is told and within the limit was found
@@ -310,26 +290,19 @@ found_there before after network text goes_on reply files is file within (failin
 
 module _ (words : List (List ℕ)) (before after : Seen) (status : ℕ) (one_reading : OneReading)
     (one_check : HasOneAnswer) where
-  whole_is_right : (plan : Plan) (reply : Reply) → status ≡ reply.status →
-      after.sink.written ≡ append_known before.sink.written reply.text → ReplyIsRight plan reply →
-      StatusIsRight plan before after status
-  whole_is_right plan reply s e right = record {
+  whole_is_right : (plan : Plan) (reply : Reply) → status ≡ reply.status → ReplyIsRight plan reply →
+      StatusIsRight plan status
+  whole_is_right plan reply s right = record {
     safe = λ zero'. right.safe (sym s ∙ zero');
     alarm = λ one. right.alarm (sym s ∙ one);
-    accepted = λ no_box three. right.accepted no_box (sym s ∙ three);
-    refused = λ box small.
-        let is : reply ≡ refuses FirstForm = right.refused' box (omega (arith, s)) in (
-          s ∙ ap (λ (r : Reply). r.status) is,
-          e ∙ ap (λ (r : Reply). append_known before.sink.written r.text) is,
-        );
+    known = λ small. let most : reply.status ≤ 1 = right.small in omega (arith, s);
   }
 
-  beyond_is_right : (plan : Plan) → 4 ≤ status → StatusIsRight plan before after status
+  beyond_is_right : (plan : Plan) → 4 ≤ status → StatusIsRight plan status
   beyond_is_right plan large = record {
     safe = λ zero'. absurd (omega arith);
     alarm = λ one. absurd (omega arith);
-    accepted = λ no_box three. absurd (omega arith);
-    refused = λ box small. absurd (omega arith);
+    known = λ small. absurd (omega arith);
   }
 
   refused_is_right : (text : List ℕ) (refusal : NetworkRefusal) (reply : Reply) → ComesTo text (Err refusal) →
@@ -348,7 +321,7 @@ module _ (words : List (List ℕ)) (before after : Seen) (status : ℕ) (one_rea
       after.sink.written ≡ append_known before.sink.written reply.text → AnalysisIsRight text before after status
   found_is_right text reply a s e = record {
     refused = λ refusal comes small. refused_is_right text refusal reply comes a s e;
-    analysed = λ tree plan read well spelled. whole_is_right plan reply s e
+    analysed = λ tree plan read well spelled. whole_is_right plan reply s
         (analysed_is_right plan a.found reply
         (comes_to_plan one_reading one_check text tree plan a.found read well spelled a.comes) a.analysed);
   }

@@ -4,11 +4,12 @@ use Rattle.outside.specs.Files.{FileMap}
 use Rattle.plan_text.specs.Messages.{usage_text, missing_text, fault_load_text}
 use Rattle.plan_text.specs.declared.refusal.NetworkRefusal.TheVariants.{TooLong}
 use Rattle.amdl_app.specs.Reply.{Reply, says, refuses}
-use Rattle.amdl_app.specs.Command.{Command, Analyse, Check, Format, Asks, AskNothing, Input, inputs_of}
+use Rattle.amdl_app.specs.Command.{Command, Analyse, Check, Format, Replay, Asks, AskNothing, Input, inputs_of}
 use Rattle.amdl_app.specs.Loaded.{Loaded, Found, Over, Lacking, Failed, Tells, EachComes}
 use Rattle.amdl_app.specs.Report.{IsAnalysis}
 use Rattle.amdl_app.specs.Counts.{IsCheck}
 use Rattle.amdl_app.specs.Formatting.{IsFormatting}
+use Rattle.amdl_app.specs.Replaying.{IsReplay}
 
 -- the reply after the file of a network was to be loaded, given the reply to its text and to the loads behind it
 abbrev pub AfterNetwork : List ℕ → (List ℕ → List Loaded → Reply → Type 0) → List Loaded → Reply → Type 0
@@ -23,6 +24,7 @@ abbrev pub IsReplyTo : Command → List Loaded → Reply → Type 0
 IsReplyTo (Analyse network) = AfterNetwork network (λ text others. IsAnalysis text)
 IsReplyTo (Check network) = AfterNetwork network (λ text others. IsCheck text)
 IsReplyTo (Format network) = AfterNetwork network (λ text others. IsFormatting text)
+IsReplyTo (Replay mode network schedule) = AfterNetwork network (λ text others. IsReplay mode schedule text others)
 
 -- the reply to a command, given one outcome of each of its loads, where it is told what a load may come to
 abbrev pub IsCommandReply : (Input → Loaded → Type 0) → Command → Reply → Type 0

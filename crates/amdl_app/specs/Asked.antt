@@ -12,6 +12,7 @@ abbrev pub asked_for : Command → command.Command
 asked_for (code.Analyse network) = command.Analyse network.now
 asked_for (code.Check network) = command.Check network.now
 asked_for (code.Format network) = command.Format network.now
+asked_for (code.Replay mode network schedule) = command.Replay mode network.now schedule.now
 
 abbrev pub stopped_by : Stop → outcome.Loaded
 stopped_by TooLong = outcome.Over

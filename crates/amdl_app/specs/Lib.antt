@@ -1,4 +1,3 @@
-pub mod Analysis
 pub mod Answer
 pub mod Answered
 pub mod Asked
@@ -9,6 +8,8 @@ pub mod Laws
 pub mod Loaded
 pub mod Outcome
 pub mod Promises
+pub mod ReplayPromises
+pub mod Replaying
 pub mod Reply
 pub mod Report
 pub mod Seen

@@ -7,8 +7,8 @@ use Rattle.std.specs.declared.alloc.Global.{Global}
 use Rattle.std.specs.Io.KnownBytes.{append_known}
 use Rattle.amdl_tree.specs.declared.tree.Tree.{Tree}
 use Rattle.net_plan.specs.declared.plan.Plan.{Plan}
-use Rattle.net_plan.specs.Plan.{HasNoBox}
 use Rattle.net_runs.specs.World.{HasNoBadRun}
+use Rattle.net_runs.specs.declared.world.Mode.{Mode}
 use Rattle.tree_plan.specs.Net.{net}
 use Rattle.tree_rules.specs.Checked.{IsWellFormed}
 use Rattle.amdl_check.specs.Checking.{IsNetworkOf}
@@ -20,9 +20,11 @@ use Rattle.plan_text.specs.Messages.{usage_text, refused_network, missing_text, 
 use Rattle.plan_text.specs.Prints.{PrintsSafe}
 use Rattle.plan_text.specs.Text.{counts_of}
 use Rattle.plan_text.specs.declared.refusal.NetworkRefusal.{NetworkRefusal}
-use Rattle.plan_text.specs.declared.refusal.NetworkRefusal.TheVariants.{FirstForm}
-use Rattle.amdl_app.specs.Reply.{Reply, refuses}
-use Rattle.amdl_app.specs.Command.{Analyse, Check, Asks, AskNothing, LoadsFile, UseNoFile, text_limit}
+use Rattle.concrete_net.specs.declared.refusal.StepRefusal.{StepRefusal}
+use Rattle.schedule_file.specs.Messages.{refused_step}
+use Rattle.schedule_file.specs.declared.refusal.FileRefusal.{FileRefusal}
+use Rattle.amdl_app.specs.Reply.{Reply, says, refuses, refuses_schedule}
+use Rattle.amdl_app.specs.Command.{Analyse, Check, Replay, Asks, AskNothing, LoadsFile, UseNoFile, text_limit}
 use Rattle.amdl_app.specs.Counts.{counted}
 use Rattle.amdl_app.specs.Report.{HasNoBad, HasBad}
 use Rattle.amdl_app.specs.Answer.{IsAnswer}
@@ -78,9 +80,22 @@ pub record UsageIsRight (words : List (List ℕ)) (before after : Seen) (status 
   pub cut : AskNothing words → AppendsFrontOf before after usage_text
   pub statuses : AskNothing words → (status ≡ 2) ⊎ ((status ≡ 5) ⊎ (status ≡ 6))
 
--- the answer refuses a text that the words load
+-- the words ask for a replay
+abbrev pub AskReplay : List (List ℕ) → Type 0
+AskReplay words =
+    (mode : Mode) × (network : List ℕ) × (schedule : List ℕ) × Asks words (Replay mode network schedule)
+
+-- the reply refuses a text that the words load: that of a network, or where they ask for a replay that of a schedule
+-- or, behind lines on the steps before it, a step of the schedule
+pub data IsRefusal (words : List (List ℕ)) (reply : Reply) : Type 0 where
+  of_network : (refusal : NetworkRefusal) → reply ≡ refuses refusal → IsRefusal words reply
+  of_schedule : AskReplay words → (refusal : FileRefusal) → reply ≡ refuses_schedule refusal → IsRefusal words reply
+  of_step : AskReplay words → (lines : List ℕ) (k : ℕ) (why : StepRefusal) →
+      reply ≡ says 3 (lines ++ refused_step k why) → IsRefusal words reply
+
+-- the answer refuses one
 abbrev pub HasRefusal : List (List ℕ) → FileMap → Type 0
-HasRefusal words files = (refusal : NetworkRefusal) × IsAnswer words files (refuses refusal)
+HasRefusal words files = (reply : Reply) × IsRefusal words reply × IsAnswer words files reply
 
 -- status 3 comes only there, and there the status is 3, 4, 5 or 6
 pub record RefusalIsRight (words : List (List ℕ)) (before : Seen) (status : ℕ) : Type 0 where
@@ -125,14 +140,14 @@ CallSaysSafe before after status =
     ⊎ ((old : List ℕ) × (appended : List ℕ) × (before.sink.written ≡ Some old)
     × (after.sink.written ≡ Some (old ++ appended)) × PrintsSafe appended)
 
--- the text is the file of a well-formed tree, and the network that it spells has no box, no derivation that ends in a
--- bad fact, and no run with a bad event, of any length and in either mode
+-- the text is the file of a well-formed tree, and the network that it spells has no derivation that ends in a bad fact,
+-- and no run with a bad event: no finite list of sends, deliveries and reverts, in any order, over unordered or ordered
+-- channels
 pub record IsSafeText (text : List ℕ) : Type 0 where
   pub tree : Tree
   pub plan : Plan
   pub file : IsReadAs text (Ok tree)
   pub network : IsNetworkOf tree plan
-  pub no_box : HasNoBox plan
   pub no_bad_fact : HasNoBad plan
   pub no_bad_run : HasNoBadRun plan
 
@@ -142,13 +157,12 @@ SafeOnly words before after status =
     (network : List ℕ) → Asks words (Analyse network) → CallSaysSafe before after status →
     WhereTold before.files (λ files. (text : List ℕ) × (file_of files network ≡ Some text) × IsSafeText text)
 
--- what the status of `analyse` says of the network that a file spells; the statuses 4 to 6 say nothing of it
-pub record StatusIsRight (plan : Plan) (before after : Seen) (status : ℕ) : Type 0 where
-  pub safe : status ≡ 0 → HasNoBox plan × HasNoBad plan
-  pub alarm : status ≡ 1 → HasNoBox plan × HasBad plan
-  -- a network without boxes isn't refused, and one with a box is refused for its form
-  pub accepted : HasNoBox plan → status ≢ 3
-  pub refused : ¬ HasNoBox plan → status ≤ 3 → (status ≡ 3) × Appends before after (refused_network FirstForm)
+-- what the status of `analyse` says of the network that a file spells: 0 exactly where no derivation ends in a bad fact,
+-- 1 exactly where one does, and never 3; the statuses 4 to 6 say nothing of it
+pub record StatusIsRight (plan : Plan) (status : ℕ) : Type 0 where
+  pub safe : status ≡ 0 → HasNoBad plan
+  pub alarm : status ≡ 1 → HasBad plan
+  pub known : status ≤ 3 → status ≤ 1
 
 -- what `analyse` promises of a text within the limit: a status up to 3 is that of its refusal, or is right of the
 -- network that it spells
@@ -156,7 +170,7 @@ pub record AnalysisIsRight (text : List ℕ) (before after : Seen) (status : ℕ
   pub refused : (refusal : NetworkRefusal) → ComesTo text (Err refusal) → status ≤ 3 →
       (status ≡ 3) × Appends before after (refused_network refusal)
   pub analysed : (tree : Tree) (plan : Plan) → IsReadAs text (Ok tree) → IsWellFormed tree.items →
-      net tree ≡ Some plan → StatusIsRight plan before after status
+      net tree ≡ Some plan → StatusIsRight plan status
 
 abbrev pub SafeIf : List (List ℕ) → Seen → Seen → ℕ → Type 0
 SafeIf words before after status =

@@ -1,21 +1,21 @@
 //! The verb `analyse`.
-ghost use Rattle.std.specs.Prelude.{◌≡◌, ◌≤◌, length, Ok, IfOk};
-ghost use Rattle.net_plan.specs.Plan.{HasNoBox};
+ghost use Rattle.std.specs.Prelude.{◌≡◌, ◌≤◌, length, IfOk};
 ghost use Rattle.amdl_app.specs.Answer.{IsCommandReply};
 ghost use Rattle.amdl_app.specs.Answered.{reply_of};
 ghost use Rattle.amdl_app.specs.Command.{Analyse};
 ghost use Rattle.amdl_app.specs.Loaded.{MayCome};
-ghost use Rattle.amdl_app.specs.Report.{IsAnalysis, IsAnalysisOf, IsReport, status_of};
+ghost use Rattle.amdl_app.specs.Report.{IsAnalysis, IsReport, verdict_of};
 ghost use Rattle.amdl_app.specs.Seen.{files_seen};
 
 use crate::answer::{Answer, refusal_answer};
-use crate::facts::{bad_facts, derivable_facts};
 use crate::load::{Loaded, load_network, stop_answer};
 use crate::spelling::network_of;
 use amdl_tree::NoMemory;
-use net_plan::{Fact, Network};
+use derived_facts::derived_findings;
+use net_plan::Network;
 use outside::Files;
-use plan_text::{NetworkRefusal, put_report};
+use plan_text::laws::findings_are_reported;
+use plan_text::{Findings, put_report};
 use std::alloc::Global;
 
 /// Loads the file of a network and analyses it.
@@ -45,37 +45,23 @@ fn analyse_text(alloc: Global, text: &[u8]) -> Result<Answer, NoMemory>
     }
 }
 
-// Analyses a network, and refuses one with a box.
+// Analyses a network: status 0 where no derivable fact is bad, and else 1.
 fn analyse_network(alloc: Global, network: &Network) -> Result<Answer, NoMemory>
-    ensures { IfOk result (λ answer. IsAnalysisOf (Ok network.now) (reply_of answer)) }
-{
-    if network.boxes() > 0 {
-        return refusal_answer(alloc, NetworkRefusal::FirstForm);
-    }
-    report(alloc, network)
-}
-
-// The report of a network without boxes: status 0 where no derivable fact is bad, and else 1.
-fn report(alloc: Global, network: &Network) -> Result<Answer, NoMemory>
-    requires { HasNoBox network.now }
     ensures { IfOk result (λ answer. IsReport network.now (reply_of answer)) }
 {
-    let facts = derivable_facts(alloc, network)?;
-    let bad = bad_facts(alloc, network, facts.as_slice())?;
+    findings_are_reported();
+    let findings = derived_findings(alloc, network)?;
     let mut text = Vec::new(alloc);
-    put_report(network, facts.as_slice(), bad.as_slice(), &mut text)?;
+    put_report(network, &findings, &mut text)?;
     Ok(Answer {
-        status: verdict(bad.as_slice()),
+        status: verdict(&findings),
         text,
     })
 }
 
-// The status of a report with these bad facts.
-fn verdict(bad: &[Fact]) -> u8
-    ensures { result ≡ status_of bad.now }
+// The status of a report of these findings.
+fn verdict(findings: &Findings) -> u8
+    ensures { result ≡ verdict_of findings.now.bad }
 {
-    match bad {
-        [] => 0,
-        _ => 1,
-    }
+    if findings.bad == 0 { 0 } else { 1 }
 }

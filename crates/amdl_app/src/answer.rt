@@ -1,11 +1,12 @@
 //! The answer of a call before it is put out.
 ghost use Rattle.std.specs.Prelude.{◌≡◌, ◌∷◌, [], ℕ, ◌≤◌, OnOk, IfOk, IfNone, length, All};
-ghost use Rattle.amdl_app.specs.Reply.{says, refuses};
+ghost use Rattle.amdl_app.specs.Reply.{says, refuses, refuses_schedule};
 ghost use Rattle.plan_text.specs.Messages.{usage_text, missing_text, fault_load_text};
 ghost use Rattle.amdl_app.specs.Answered.{reply_of};
 
 use amdl_tree::NoMemory;
 use plan_text::{NetworkRefusal, put_fault_load, put_missing, put_refused, usage};
+use schedule_file::FileRefusal;
 use std::alloc::Global;
 
 /// A status and a text.
@@ -30,6 +31,15 @@ pub fn refusal_answer(alloc: Global, refusal: NetworkRefusal) -> Result<Answer, 
 {
     let mut text = Vec::new(alloc);
     put_refused(refusal, &mut text)?;
+    Ok(Answer { status: 3, text })
+}
+
+/// A refusal of the text of a schedule, status 3.
+pub fn schedule_refusal_answer(alloc: Global, refusal: FileRefusal) -> Result<Answer, NoMemory>
+    ensures { IfOk result (λ answer. reply_of answer ≡ refuses_schedule refusal) }
+{
+    let mut text = Vec::new(alloc);
+    schedule_file::put_refused(refusal, &mut text)?;
     Ok(Answer { status: 3, text })
 }
 

@@ -5,12 +5,13 @@ mod analyse;
 mod answer;
 mod checking;
 mod command;
-mod facts;
 mod formatting;
 pub mod laws;
 mod load;
 mod output;
 mod program;
+mod replaying;
+mod simulated;
 mod spelling;
 
 pub use program::run;

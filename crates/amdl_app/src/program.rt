@@ -9,6 +9,7 @@ ghost use Rattle.amdl_app.specs.Outcome.{IsCall, IsPutOut};
 ghost use Rattle.amdl_app.specs.Promises.{spelled, AnswersUpToThree, AnswersUnhindered, UnusedIsQuiet, UsageIsRight};
 ghost use Rattle.amdl_app.specs.Promises.{RefusalIsRight, FileFaultIsRight, SinkFaultIsRight, CutsAreFronts, SafeOnly};
 ghost use Rattle.amdl_app.specs.Promises.{SafeIf, CountsOnly, CountsIf};
+ghost use Rattle.amdl_app.specs.ReplayPromises.{ReplayOnly, ReplayIf};
 ghost use Rattle.amdl_app.specs.Seen.{both_seen, files_seen, sink_seen};
 
 use crate::analyse::analyse;
@@ -18,20 +19,24 @@ use crate::command::{Command, command_of};
 use crate::formatting::format;
 use crate::laws::answer_is_unique;
 use crate::output::put_text;
+use crate::replaying::replay_files;
 use amdl_tree::NoMemory;
-use net_runs::laws::safe_network_runs_safely;
 use network_file::one_reading;
 use outside::{Files, Sink, SinkFault};
+use packet_state::laws::safe_network_runs_safely;
 use plan_text::laws::{messages_are_not_safe, safe_is_told};
+use schedule_file::laws::status_is_right;
 use std::alloc::Global;
 use tree_rules::one_answer;
 
 /// Does all that the program does for the words after its name, and answers its exit status.
 ///
-/// Status 0: SAFE, or done; 1: ALARM; 2: the words are no row of the table; 3: a text that was loaded is refused; 4: a
-/// file is missing or loading it failed; 5: putting the text out failed; 6: want of memory. With the statuses 0 to 4
-/// the whole text was appended to the sink, with 5 and 6 a front of it. It takes time linear in the text of the
-/// network; `analyse` and `check` also take what checking its tree takes, and `analyse` the hosts times the packets.
+/// Status 0: SAFE, replayed without a bad event, or done; 1: ALARM, or replayed with a bad event; 2: the words are no
+/// row of the table; 3: a text that was loaded is refused, or a step of a schedule; 4: a file is missing or loading it
+/// failed; 5: putting the text out failed; 6: want of memory. With the statuses 0 to 4 the whole text was appended to
+/// the sink, with 5 and 6 a front of it. It takes time linear in the text of the network; each verb but `format` also
+/// takes what checking its tree takes, `analyse` what finding the derivable facts takes, and a replay the time of its
+/// steps.
 pub fn run<F: Files, S: Sink>(alloc: Global, words: &[String], files: &mut F, out: &mut S) -> u8
     ensures status { result ≤ 6 }
 
@@ -87,6 +92,14 @@ pub fn run<F: Files, S: Sink>(alloc: Global, words: &[String], files: &mut F, ou
     ensures counts_if { CountsIf (spelled words.now)
         (both_seen (files_seen F.told F.faults files.old) (sink_seen S.written S.faults out.old))
         (both_seen (files_seen F.told F.faults files.new) (sink_seen S.written S.faults out.new)) result }
+
+    // What a replay says.
+    ensures replay_only { ReplayOnly (spelled words.now)
+        (both_seen (files_seen F.told F.faults files.old) (sink_seen S.written S.faults out.old))
+        (both_seen (files_seen F.told F.faults files.new) (sink_seen S.written S.faults out.new)) result }
+    ensures replay_if { ReplayIf (spelled words.now)
+        (both_seen (files_seen F.told F.faults files.old) (sink_seen S.written S.faults out.old))
+        (both_seen (files_seen F.told F.faults files.new) (sink_seen S.written S.faults out.new)) result }
 {
     answer_is_unique();
     one_reading();
@@ -94,6 +107,7 @@ pub fn run<F: Files, S: Sink>(alloc: Global, words: &[String], files: &mut F, ou
     safe_is_told();
     messages_are_not_safe();
     safe_network_runs_safely();
+    status_is_right();
     perform(alloc, words, files, out)
 }
 
@@ -145,6 +159,9 @@ fn reply_to<F: Files>(
         Command::Analyse(network) => analyse(alloc, network, files),
         Command::Check(network) => check_file(alloc, network, files),
         Command::Format(network) => format(alloc, network, files),
+        Command::Replay(mode, network, schedule) => {
+            replay_files(alloc, mode, network, schedule, files)
+        }
     }
 }
 

@@ -23,8 +23,11 @@ pub fn network_of(alloc: Global, text: &[u8]) -> Result<Result<Network, NetworkR
     }
 }
 
-// The network that the items of a tree spell, or why they are refused.
-fn network_of_tree(alloc: Global, tree: &Tree) -> Result<Result<Network, NetworkRefusal>, NoMemory>
+/// The network that the items of a tree spell, or why they are refused.
+pub fn network_of_tree(
+    alloc: Global,
+    tree: &Tree,
+) -> Result<Result<Network, NetworkRefusal>, NoMemory>
     requires { IsShaped tree.now }
     ensures { IfOk result (IsCheckedAs tree.now) }
 {

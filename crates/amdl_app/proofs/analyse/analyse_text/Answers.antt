@@ -1,7 +1,7 @@
 use Rattle.std.proofs.Common.{◌≡◌, Ok, Err, refl, subst}
 use Rattle.amdl_app.specs.Answered.{reply_of}
 use Rattle.amdl_app.specs.Reply.{refuses}
-use Rattle.amdl_app.specs.Report.{IsAnalysis, IsAnalysisOf, refused}
+use Rattle.amdl_app.specs.Report.{IsAnalysis, IsReport, refused, reported}
 use Rattle.amdl_app.specs.Spelled.{ComesTo}
 use Rattle.amdl_app.proofs.Words.{ok_map}
 use Rattle.amdl_app.proofs.analyse.analyse_text.Goals as goal
@@ -10,10 +10,13 @@ pub returns-in-Ok : goal.returns-in-Ok
 returns-in-Ok c =
     let comes : ComesTo c.args.text.now (Ok c.in-Ok.network) =
     subst (ComesTo c.args.text.now) c.in-Ok.is c.in_ok-found.ensures in
-    ok_map c.analyse_network.result (λ answer. IsAnalysisOf (Ok c.in-Ok.network) (reply_of answer))
+    ok_map c.analyse_network.result (λ answer. IsReport c.in-Ok.network (reply_of answer))
     (λ answer. IsAnalysis c.args.text.now (reply_of answer))
-    (λ answer analysed. record { found = Ok c.in-Ok.network; comes = comes; analysed = analysed })
-    c.analyse_network.ensures
+    (λ answer report. record {
+      found = Ok c.in-Ok.network;
+      comes = comes;
+      analysed = reported c.in-Ok.network refl report;
+    }) c.analyse_network.ensures
 
 pub returns-in-Err : goal.returns-in-Err
 returns-in-Err c =

@@ -2,6 +2,7 @@ use Rattle.amdl_app.specs.Promises.{spelled}
 use Rattle.amdl_app.specs.Seen.{both_seen, files_seen, sink_seen}
 use Rattle.amdl_app.proofs.PromiseLemmas.{status_in_range, answers_up_to_three, answers_unhindered, sink_fault_is_right}
 use Rattle.amdl_app.proofs.PromiseLemmas.{usage_is_right, refusal_is_right, file_fault_is_right, cuts_are_fronts}
+use Rattle.amdl_app.proofs.ReplayPromiseLemmas.{replay_only, replay_if}
 use Rattle.amdl_app.proofs.SafeLemmas.{safe_only, safe_if, counts_only, counts_if}
 use Rattle.amdl_app.proofs.program.run.Goals as goal
 
@@ -113,3 +114,21 @@ returns-clause-counts_if g c =
     (both_seen (files_seen g.F.Files.told g.F.Files.faults c.perform.new.files)
     (sink_seen g.S.Sink.written g.S.Sink.faults c.perform.new.out))
     c.perform.result c.one_reading.ensures c.one_answer.ensures c.perform.ensures.call
+
+pub returns-clause-replay_only : goal.returns-clause-replay_only
+returns-clause-replay_only g c =
+    replay_only (spelled c.args.words.now)
+    (both_seen (files_seen g.F.Files.told g.F.Files.faults c.args.files.now)
+    (sink_seen g.S.Sink.written g.S.Sink.faults c.args.out.now))
+    (both_seen (files_seen g.F.Files.told g.F.Files.faults c.perform.new.files)
+    (sink_seen g.S.Sink.written g.S.Sink.faults c.perform.new.out))
+    c.perform.result c.status_is_right.ensures c.perform.ensures.call
+
+pub returns-clause-replay_if : goal.returns-clause-replay_if
+returns-clause-replay_if g c =
+    replay_if (spelled c.args.words.now)
+    (both_seen (files_seen g.F.Files.told g.F.Files.faults c.args.files.now)
+    (sink_seen g.S.Sink.written g.S.Sink.faults c.args.out.now))
+    (both_seen (files_seen g.F.Files.told g.F.Files.faults c.perform.new.files)
+    (sink_seen g.S.Sink.written g.S.Sink.faults c.perform.new.out))
+    c.perform.result c.status_is_right.ensures c.answer_is_unique.ensures.answer c.perform.ensures.call
