@@ -39,7 +39,8 @@ fn no_words(rt: HostRuntime) {
     let mut out = SureSink::new(rt.alloc());
     let status = run(rt.alloc(), &[], &mut files, &mut out);
     assert!(rt; status == 2);
-    let usage = b"usage: amdl VERB WORD [WORD]\nverbs: analyse check format\n".as_slice();
+    let usage =
+        b"usage: amdl VERB WORD [WORD]\nverbs: analyse check format replay replay-ordered\n".as_slice();
     assert!(rt; out.bytes() == usage);
 }
 
@@ -59,20 +60,62 @@ fn each_packet_is_bad(rt: HostRuntime) -> Result<(), Fail> {
     Ok(())
 }
 
+/// The report of each network, with its status, in the order of the networks.
+const REPORTS: [(u8, &str); 11] = [
+    (
+        0,
+        "network pair hosts 2 boxes 1 packets 4\nfacts out 4 state 6 abort 0\nSAFE\n",
+    ),
+    (
+        1,
+        "network pair hosts 2 boxes 1 packets 4\nfacts out 6 state 6 abort 0\nALARM 2\ndeliver ha 2 from fw.in_side : src = b, dst = a\ndeliver ha 3 from fw.in_side : src = b, dst = b\n",
+    ),
+    (1, ALARM_REPORT),
+    (
+        1,
+        "network puzzle hosts 2 boxes 1 packets 16\nfacts out 17 state 39 abort 0\nALARM 1\ndeliver y 6 from k.outp : f = v2, g = v3\n",
+    ),
+    (
+        0,
+        "network twins hosts 2 boxes 1 packets 4\nfacts out 2 state 7 abort 0\nSAFE\n",
+    ),
+    (
+        0,
+        "network early hosts 2 boxes 1 packets 4\nfacts out 2 state 6 abort 0\nSAFE\n",
+    ),
+    (
+        0,
+        "network once hosts 2 boxes 1 packets 2\nfacts out 2 state 3 abort 0\nSAFE\n",
+    ),
+    (
+        0,
+        "network late hosts 2 boxes 1 packets 2\nfacts out 2 state 3 abort 0\nSAFE\n",
+    ),
+    (
+        0,
+        "network ring hosts 1 boxes 2 packets 1\nfacts out 3 state 2 abort 0\nSAFE\n",
+    ),
+    (
+        1,
+        "network stop hosts 2 boxes 1 packets 4\nfacts out 2 state 6 abort 1\nALARM 1\nabort fw 3 : src = b, dst = b\n",
+    ),
+    (
+        1,
+        "network office hosts 3 boxes 2 packets 18\nfacts out 11 state 42 abort 0\nALARM 1\ndeliver hb 15 from c.pb : src = s, dst = b, kind = rep\n",
+    ),
+];
+
 #[test]
-fn networks_with_boxes(rt: HostRuntime) -> Result<(), Fail> {
-    for text in &ALL {
-        if *text == WIRE {
-            continue;
-        }
-        let refused = replies(
+fn each_network(rt: HostRuntime) -> Result<(), Fail> {
+    for (text, (status, report)) in ALL.iter().zip(REPORTS.iter()) {
+        let replied = replies(
             rt.alloc(),
             "analyse",
             text.as_bytes(),
-            3,
-            b"refused network FirstForm\n",
+            *status,
+            report.as_bytes(),
         )?;
-        assert!(rt; refused, "{text}");
+        assert!(rt; replied, "{text}");
     }
     Ok(())
 }

@@ -6,6 +6,8 @@ mod analyse;
 #[cfg(test)]
 mod checking;
 #[cfg(test)]
+mod examples;
+#[cfg(test)]
 mod faults;
 #[cfg(test)]
 mod formatting;
@@ -19,6 +21,8 @@ mod pairs;
 mod plain_texts;
 #[cfg(test)]
 mod refusals;
+#[cfg(test)]
+mod replaying;
 #[cfg(test)]
 mod rules;
 #[cfg(test)]
