@@ -1,0 +1,5 @@
+use Rattle.query_tables.specs.Tables.{AreTables}
+use Rattle.query_tables.proofs.tables.QueryTables.new.Given as goal
+
+abbrev pub invariant-loop-b : goal.invariant-loop-b
+invariant-loop-b l = AreTables l.net l.b l.boxes.items
