@@ -89,23 +89,25 @@ def fabric(n):
     return text + "forbid h0 : src = a%d;\n" % (size * 8 - 1)
 
 
+def register(inserted, guard):
+    text = "middlebox register {\n  port left, right;\n  relation known(Addr);\n  on left : {\n"
+    text += "".join("    insert known(%s);\n" % name for name in inserted)
+    text += "    output right;\n  }\n  on right : {\n    if %s -> {\n      output left;\n    } fi\n  }\n}\n" % guard
+    return text + "host one;\nhost two;\n"
+
+
 def wide(n):
     text = "network wide%d;\n" % n + addresses(n)
-    text += "middlebox register {\n  port left, right;\n  relation known(Addr);\n"
-    text += "  on left : {\n    insert known(src);\n    output right;\n  }\n"
-    text += "  on right : {\n    if has known(dst) and not has known(src) -> {\n      output left;\n    } fi\n  }\n}\n"
-    text += "host one;\nhost two;\n" + "".join("box b%d : register;\n" % i for i in range(4))
+    text += register(["src"], "has known(dst) and not has known(src)")
+    text += "".join("box b%d : register;\n" % i for i in range(4))
     text += "link one -- b0.left;\n" + "".join("link b%d.right -- b%d.left;\n" % (i, i + 1) for i in range(3))
     return text + "link b3.right -- two;\nsends one : true;\nsends two : true;\nforbid one : src = a0, dst = a0;\n"
 
 
 def double(n):
     text = "network double%d;\n" % n + addresses(n)
-    text += "middlebox register {\n  port left, right;\n  relation known(Addr);\n"
-    text += "  on left : {\n    insert known(src);\n    insert known(dst);\n    output right;\n  }\n"
-    text += "  on right : {\n    if has known(src) and has known(dst) -> {\n      output left;\n    } fi\n  }\n}\n"
-    text += "host one;\nhost two;\nbox b : register;\nlink one -- b.left;\nlink b.right -- two;\n"
-    return text + "sends one : true;\nsends two : true;\n"
+    text += register(["src", "dst"], "has known(src) and has known(dst)")
+    return text + "box b : register;\nlink one -- b.left;\nlink b.right -- two;\nsends one : true;\nsends two : true;\n"
 
 
 def queries(n):
