@@ -2,6 +2,7 @@
 #![tactic(auto)]
 
 pub mod laws;
+pub mod masks;
 mod search;
 mod table;
 mod tables;
