@@ -1,0 +1,11 @@
+use Rattle.move_table.specs.Moves.{Patches}
+use Rattle.move_table.specs.Within.{NotedWithin}
+use Rattle.move_table.proofs.WithinLemmas.{Turns, IsTurn}
+use Rattle.move_table.proofs.update.note_readers.Given as goal
+
+abbrev pub invariant-loop-reader : goal.invariant-loop-reader
+invariant-loop-reader g l =
+    NotedWithin l.net
+    (Turns l.net (IsTurn l.reader-items (Patches l.net l.b l.p l.v l.update)) (Patches l.net l.b l.p l.v l.update)
+    l.reader-index)
+    (Patches l.net l.b l.p l.v l.update) l.initial.moves l.moves l.initial.work l.work

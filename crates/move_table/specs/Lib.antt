@@ -1,0 +1,7 @@
+pub mod Coded
+pub mod Kept
+pub mod Laws
+pub mod Marks
+pub mod Moves
+pub mod Offered
+pub mod Within
