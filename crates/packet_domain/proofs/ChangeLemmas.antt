@@ -5,10 +5,11 @@ use Rattle.net_plan.specs.declared.plan.Plan.{Plan}
 use Rattle.net_plan.specs.declared.fact.Fact.TheVariants.{State}
 use Rattle.box_masks.specs.Writes.{AreShown}
 use Rattle.abstract_step.specs.Step.{Result}
-use Rattle.packet_domain.specs.Offered.{Offered, Is}
-use Rattle.packet_domain.specs.Reasons.{IsAnswered, IsPatch, IsChange, SomeChanges, AgreeingChanges}
+use Rattle.move_table.specs.Offered.{Offered, Is}
+use Rattle.move_table.specs.Moves.{IsPatch}
+use Rattle.packet_domain.specs.Reasons.{IsAnswered, IsChange, SomeChanges, AgreeingChanges}
 use Rattle.packet_domain.proofs.OfferLemmas.{not_both}
-use Rattle.packet_domain.proofs.OfferedLemmas.{offered_as, offered_none}
+use Rattle.move_table.proofs.OfferedLemmas.{offered_as, offered_none}
 
 module _ (plan : Plan) (box packet before : ℕ) (old new : Progress) where
   pub change_given : (result : Result) (after : ℕ) → result.aborted ≡ false → IsAnswered plan box packet before →

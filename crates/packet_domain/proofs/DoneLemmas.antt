@@ -9,7 +9,7 @@ use Rattle.net_plan.specs.Plan.{packets_of, boxes_of, box_at, masks_of}
 use Rattle.net_plan.specs.Ends.{ends_of}
 use Rattle.net_plan.specs.Cells.{IsInRange, masks_before, cell_of, cells_of}
 use Rattle.net_plan.proofs.CellLemmas.{cell_below, some_masks}
-use Rattle.packet_domain.specs.Offered.{IsDone, IsDoneIn, HasNone, HasNoneFrom}
+use Rattle.move_table.specs.Offered.{IsDone, IsDoneIn, HasNone, HasNoneFrom}
 
 -- the next cell that is done, as a number of the row
 module _ (done : List ℕ) (first from count : ℕ) where

@@ -1,10 +1,8 @@
-mod AddLemmas
 mod ChangeLemmas
 mod DoneLemmas
 mod MoveLemmas
 mod NoteLemmas
 mod OfferLemmas
-mod OfferedLemmas
 mod PlaceLemmas
 mod ReactLemmas
 mod RoleLemmas

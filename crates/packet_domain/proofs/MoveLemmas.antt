@@ -18,15 +18,17 @@ use Rattle.packet_state.specs.Follows.{Follows}
 use Rattle.box_moves.specs.Moves.{masks_at, moves_of, IsKept, IsSized, HasMove, HasNoMoveFrom}
 use Rattle.abstract_step.specs.Step.{Result}
 use Rattle.packet_domain.specs.declared.inlet.Inlet.{Inlet}
-use Rattle.packet_domain.specs.Offered.{Offered, Is, IsDone}
+use Rattle.move_table.specs.Offered.{Offered, Is, IsDone}
 use Rattle.packet_domain.specs.Inlet.{IsInlet}
-use Rattle.packet_domain.specs.Reasons.{LeadsTo, IsPatch, AsState, AsChanged, Reacts}
+use Rattle.move_table.specs.Moves.{IsPatch, AreFollowed}
+use Rattle.packet_domain.specs.Reasons.{LeadsTo, AsState, AsChanged, Reacts}
 use Rattle.packet_domain.specs.Laws.{IsExact}
-use Rattle.packet_domain.specs.Table.{Move, IsOne, Has, before_of, after_of, Adds, SomeMoves, Tracks}
+use Rattle.move_table.specs.Moves.{Move, IsOne, Has, before_of, after_of, Adds}
+use Rattle.packet_domain.specs.Table.{SomeMoves, Tracks}
 use Rattle.packet_domain.specs.Table.{MovesBy, MovesTo, MovesFrom, MovesAsOut, MovesAsState, MovesAsStateAt, MovesAs}
 use Rattle.packet_domain.specs.Table.{IsMoved, ChangesAs}
-use Rattle.packet_domain.proofs.AddLemmas.{adds_none, adds_as}
-use Rattle.packet_domain.proofs.OfferedLemmas.{UpTo, offered_as, offered_next, offered_all}
+use Rattle.move_table.proofs.AddLemmas.{adds_none, adds_as}
+use Rattle.move_table.proofs.OfferedLemmas.{UpTo, offered_as, offered_next, offered_all}
 use Rattle.packet_domain.proofs.PlaceLemmas.{leads_once, once_before}
 use Rattle.packet_domain.proofs.RoleLemmas.{led_too, port_below}
 
@@ -333,6 +335,20 @@ tracks_none plan moves progress none nothing = record {
         let none_there : Contains [] cell = subst (λ (l : List ℕ). Contains l cell) nothing there in
         omega (arith, none_there.1)
 
+-- noted moves are followed where a packet that is put out was taken
+pub followed_out : (plan : Plan) (before old : Progress) (end packet : ℕ) (inside : IsInRange plan (Out end packet))
+    (takes : Takes before (cell_of plan (Out end packet)) old) (moves : List (List Bool)) →
+    Tracks plan moves before → AreFollowed plan moves old
+followed_out plan before old end packet inside takes moves tracks move has known =
+    elim (given_or_before plan before old (Out end packet) inside takes (before_of move) known) [
+      | inl is ↦ absurd (never is)
+      | inr earlier ↦ found_before plan before old (Out end packet) inside takes moves tracks
+          (cell_of plan (after_of move)) (tracks.closed move has earlier)
+    ]
+  where
+    never : {b p m : ℕ} → State b p m ≡ Out end packet → ⊥
+    never is = cc
+
 -- both roles of answers: what becomes of them by the table, or by all deliveries
 module _ (plan : Plan) (before old mid new : Progress) (box packet mask : ℕ) (moves : List (List Bool))
     (inside : IsInRange plan (State box packet mask))
@@ -406,6 +422,38 @@ module _ (plan : Plan) (before old mid new : Progress) (box packet mask : ℕ) (
             ⊎ (AsState plan old.done box packet mask f ⊎ ChangesAs plan moves old.done box packet mask f)) (sym is.1)
             (in_kept kept is.0 (subst (IsInRange plan) is.1 in')
             (subst (AsChanged plan old.done box packet mask) is.1 changed))
+      ]
+
+  same_place : (move : Move) → before_of move ≡ Given → (move.box ≡ box) × (move.packet ≡ packet) × (move.mask ≡ mask)
+  same_place move is = (cc, cc, cc)
+
+  moved_from : (move : Move) → Has plan moves move →
+      ChangesAs plan moves old.done move.box move.packet move.mask (after_of move)
+  moved_from move has = elim (cases_lt (2 ^ 25) (moves_of plan move.box)) [
+    | inl more ↦ inr (
+      (λ kept. let few : moves_of plan move.box ≤ 2 ^ 25 = kept in omega (arith, few, more)),
+      still_changed plan before old Given inside takes move.box move.packet move.mask (after_of move)
+          (tracks.sound move has),
+    )
+    | inr kept ↦ inl (kept, (move.other, has, refl))
+  ]
+
+  -- noted moves are followed, once what they make of the given answers was offered
+  pub followed_state : Offered plan (ChangesAs plan moves old.done box packet mask) old mid →
+      AreFollowed plan moves mid
+  followed_state first move has known_mid =
+      let known : IsDone plan old.done (before_of move) =
+      subst (λ (d : List ℕ). IsDone plan d (before_of move)) first.grows.done known_mid in
+      elim (given_or_before plan before old Given inside takes (before_of move) known) [
+        | inl is ↦ let same = same_place move is in
+            first.all (after_of move) (has.is_move.boxed, has.is_move.packet_is, has.is_move.other_is)
+            (subst (λ (m : ℕ). ChangesAs plan moves old.done box packet m (after_of move)) same.2
+            (subst (λ (p : ℕ). ChangesAs plan moves old.done box p move.mask (after_of move)) same.1
+            (subst (λ (b : ℕ). ChangesAs plan moves old.done b move.packet move.mask (after_of move)) same.0
+            (moved_from move has))))
+        | inr earlier ↦ found_stays old mid first.grows (cell_of plan (after_of move))
+            (found_before plan before old Given inside takes moves tracks (cell_of plan (after_of move))
+            (tracks.closed move has earlier))
       ]
 
   pub both_roles_moved : Offered plan (ChangesAs plan moves old.done box packet mask) old mid →

@@ -4,9 +4,9 @@ use Rattle.fix_engine.specs.Progress.{Progress}
 use Rattle.net_plan.specs.declared.plan.Plan.{Plan}
 use Rattle.net_plan.specs.declared.fact.Fact.TheVariants.{Abort}
 use Rattle.abstract_step.specs.Step.{Result}
-use Rattle.packet_domain.specs.Offered.{Offered, Is}
+use Rattle.move_table.specs.Offered.{Offered, Is}
 use Rattle.packet_domain.specs.Reasons.{ArePutOut, Gives}
-use Rattle.packet_domain.proofs.OfferedLemmas.{offered_as}
+use Rattle.move_table.proofs.OfferedLemmas.{offered_as}
 
 pub not_both : {P : Type 0} {b : Bool} → b ≡ true → b ≡ false → P
 not_both one two = absurd (let clash : true ≡ false = sym one ∙ two in cc)

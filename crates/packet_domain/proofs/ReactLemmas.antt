@@ -14,9 +14,9 @@ use Rattle.net_plan.specs.Cells.{IsInRange, cell_of}
 use Rattle.net_plan.proofs.CellLemmas.{cell_once}
 use Rattle.packet_state.specs.Follows as packet_state
 use Rattle.packet_domain.specs.Follows.{Follows}
-use Rattle.packet_domain.specs.Offered.{Offered, IsDone}
+use Rattle.move_table.specs.Offered.{Offered, IsDone}
 use Rattle.packet_domain.specs.Reasons.{IsDelivered, AsState, AsChanged, Reacts}
-use Rattle.packet_domain.proofs.OfferedLemmas.{offered_both}
+use Rattle.move_table.proofs.OfferedLemmas.{offered_both}
 
 among_two : (one two cell : ℕ) → Contains (one ∷ two ∷ []) cell → (one ≡ cell) ⊎ (two ≡ cell)
 among_two one two cell (zero, within, is) = inl is

@@ -11,13 +11,13 @@ use Rattle.net_plan.proofs.EndLemmas.{port_ends}
 use Rattle.packet_state.specs.Follows.{Follows}
 use Rattle.abstract_step.specs.Step.{Result}
 use Rattle.packet_domain.specs.declared.inlet.Inlet.{Inlet}
-use Rattle.packet_domain.specs.Offered.{Offered, IsDone}
+use Rattle.move_table.specs.Offered.{Offered, IsDone}
 use Rattle.packet_domain.specs.Inlet.{IsInlet}
 use Rattle.packet_domain.specs.Reasons.{LeadsTo, SomeGives, AgreeingChanges, ChangesAll, IsDelivered, IsDeliveredFrom}
 use Rattle.packet_domain.specs.Reasons.{DeliversTo, AsOut, AsState, AsStateAt, AsChangedFrom, AsChangedAt}
 use Rattle.packet_domain.specs.Reasons.{AsChanged}
 use Rattle.packet_domain.specs.Laws.{IsExact}
-use Rattle.packet_domain.proofs.OfferedLemmas.{offered_as, offered_both, offered_none}
+use Rattle.move_table.proofs.OfferedLemmas.{offered_as, offered_both, offered_none}
 use Rattle.packet_domain.proofs.PlaceLemmas.{leads_once, once_before}
 
 module _ (plan : Plan) (end packet box mask : ℕ) (results : List Result)

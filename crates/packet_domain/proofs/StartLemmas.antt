@@ -13,9 +13,9 @@ use Rattle.net_plan.specs.Cells.{IsInRange, cell_of}
 use Rattle.net_plan.proofs.EndLemmas.{host_ends}
 use Rattle.packet_state.specs.Follows as packet_state
 use Rattle.packet_domain.specs.Follows.{Follows}
-use Rattle.packet_domain.specs.Offered.{Offered, Is}
+use Rattle.move_table.specs.Offered.{Offered, Is}
 use Rattle.packet_domain.specs.Reasons.{IsSentBy, SendAny, FirstsAny}
-use Rattle.packet_domain.proofs.OfferedLemmas.{offered_as, offered_both}
+use Rattle.move_table.proofs.OfferedLemmas.{offered_as, offered_both}
 use Rattle.packet_domain.proofs.PlaceLemmas.{end_settled}
 
 pub sent_given : (plan : Plan) (host packet end : ℕ) (old new : Progress) → IsEndAt plan end (Host host) →

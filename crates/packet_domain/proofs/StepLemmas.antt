@@ -21,7 +21,8 @@ use Rattle.box_masks.specs.Writes.{after_writes}
 use Rattle.box_masks.specs.Bits.{tuples_at, patched}
 use Rattle.box_masks.proofs.MaskLemmas.{patch_is_exact}
 use Rattle.abstract_step.specs.Step.{Result, Answer, StandsFor, emission_of}
-use Rattle.packet_domain.specs.Reasons.{SomeGives, IsPatch, AgreeingChanges}
+use Rattle.move_table.specs.Moves.{IsPatch}
+use Rattle.packet_domain.specs.Reasons.{SomeGives, AgreeingChanges}
 use Rattle.packet_domain.specs.Laws.{IsFiring, StepIsExact}
 
 -- members of a list that is mapped

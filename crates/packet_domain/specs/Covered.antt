@@ -20,10 +20,10 @@ use Rattle.packet_state.specs.Covers as packet_state
 use Rattle.packet_state.proofs.CoverLemmas.{first_covered, step_covered}
 use Rattle.packet_state.proofs.RangeLemmas.{follows_in_range}
 use Rattle.packet_state.proofs.RunLemmas.{bad_step_covered}
-use Rattle.packet_domain.specs.declared.abstraction.Move.{Move}
+use Rattle.packet_domain.specs.declared.abstraction.Transition.{Transition}
 use Rattle.packet_domain.specs.Follows.{Follows}
-use Rattle.packet_domain.specs.Offered.{IsDone}
-use Rattle.packet_domain.specs.Worlds.{IsFirst, Leads, IsBadMove, Covers, IsBadCell}
+use Rattle.move_table.specs.Offered.{IsDone}
+use Rattle.packet_domain.specs.Worlds.{IsFirst, Leads, IsBadTransition, Covers, IsBadCell}
 
 fields_below : FieldsAreBelowSizes
 fields_below sizes p k headers less = field_below sizes p k (positive_sizes sizes headers) less
@@ -68,22 +68,22 @@ first_is_covered plan cells world below closed first =
       covers = first_covered plan (IsDone plan cells) (facts_closed plan cells closed);
     })
 
-pub next_is_covered : (plan : Plan) (cells : List ℕ) (old new : World) (move : Move) →
+pub next_is_covered : (plan : Plan) (cells : List ℕ) (old new : World) (transition : Transition) →
     AreBelow (cells_of plan) cells → IsClosed (Follows plan) cells → Covers plan cells old →
-    Leads plan old move new → Covers plan cells new
-next_is_covered plan cells old new move below closed covers leads = record {
+    Leads plan old transition new → Covers plan cells new
+next_is_covered plan cells old new transition below closed covers leads = record {
   sound = covers.sound;
-  world_is = step_keeps_world in_range plan move.mode move.step old new leads.0 covers.sound covers.world_is leads.1;
-  covers = step_covered plan (IsDone plan cells) (facts_closed plan cells closed) move.mode move.step old new leads.0
+  world_is = step_keeps_world in_range plan transition.mode transition.step old new leads.0 covers.sound covers.world_is leads.1;
+  covers = step_covered plan (IsDone plan cells) (facts_closed plan cells closed) transition.mode transition.step old new leads.0
       covers.world_is leads.1 covers.covers;
 }
 
-pub bad_is_shown : (plan : Plan) (cells : List ℕ) (old new : World) (move : Move) →
+pub bad_is_shown : (plan : Plan) (cells : List ℕ) (old new : World) (transition : Transition) →
     AreBelow (cells_of plan) cells → IsClosed (Follows plan) cells → Covers plan cells old →
-    Leads plan old move new → IsBadMove plan old move new →
+    Leads plan old transition new → IsBadTransition plan old transition new →
     (cell : ℕ) × Contains cells cell × IsBadCell plan cell
-bad_is_shown plan cells old new move below closed covers leads bad =
+bad_is_shown plan cells old new transition below closed covers leads bad =
     let found =
-    bad_step_covered plan (IsDone plan cells) (facts_closed plan cells closed) move.mode move.step old new bad.0
+    bad_step_covered plan (IsDone plan cells) (facts_closed plan cells closed) transition.mode transition.step old new bad.0
     covers.world_is bad.1 covers.covers bad.2 in
     (cell_of plan found.0, found.1.1, (found.0, found.1.0, refl, found.2))

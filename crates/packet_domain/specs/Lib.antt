@@ -1,10 +1,8 @@
 pub mod Bounded
-pub mod Coded
 pub mod Covered
 pub mod Follows
 pub mod Inlet
 pub mod Laws
-pub mod Offered
 pub mod Reasons
 pub mod Table
 pub mod Worlds

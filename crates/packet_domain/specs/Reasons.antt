@@ -10,11 +10,11 @@ use Rattle.net_plan.specs.Plan.{packets_of, boxes_of, box_at, Sends}
 use Rattle.net_plan.specs.Ends.{IsEndAt, IsLinked}
 use Rattle.packet_state.specs.Answers.{answers}
 use Rattle.packet_state.specs.Follows.{Follows}
-use Rattle.box_masks.specs.declared.write.Write.{Write}
-use Rattle.box_masks.specs.Writes.{AreShown, after_writes}
+use Rattle.box_masks.specs.Writes.{AreShown}
 use Rattle.abstract_step.specs.declared.put.Put.{Put}
 use Rattle.abstract_step.specs.Step.{Result}
-use Rattle.packet_domain.specs.Offered.{IsDone}
+use Rattle.move_table.specs.Offered.{IsDone}
+use Rattle.move_table.specs.Moves.{IsPatch}
 
 -- from no premise
 
@@ -60,12 +60,6 @@ Gives plan box packet result fact =
 abbrev pub SomeGives : Plan → ℕ → ℕ → List Result → Fact → Type 0
 SomeGives plan box packet results fact =
     (result : Result) × Contains results result × Gives plan box packet result fact
-
--- contents that answer with `before` at the packet answer with `after` at it, once the writes are done
-abbrev pub IsPatch : Plan → ℕ → List Write → ℕ → ℕ → ℕ → Type 0
-IsPatch plan box writes packet before after =
-    (contents : List Entry) → answers plan box packet contents ≡ before →
-    answers plan box packet (after_writes contents writes) ≡ after
 
 -- some contents answer so at the packet
 abbrev pub IsAnswered : Plan → ℕ → ℕ → ℕ → Type 0

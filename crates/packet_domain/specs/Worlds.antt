@@ -9,21 +9,21 @@ use Rattle.net_runs.specs.declared.world.Event.{Event}
 use Rattle.net_runs.specs.declared.world.World.{World}
 use Rattle.net_runs.specs.World as runs
 use Rattle.packet_state.specs.Covers as packet_state
-use Rattle.packet_domain.specs.declared.abstraction.Move.{Move}
-use Rattle.packet_domain.specs.Offered.{IsDone}
+use Rattle.packet_domain.specs.declared.abstraction.Transition.{Transition}
+use Rattle.move_table.specs.Offered.{IsDone}
 
 -- the first state of a sound plan
 abbrev pub IsFirst : Plan → World → Type 0
 IsFirst plan world = IsSound plan × (world ≡ runs.first_world plan)
 
--- the move leads from the one state to the other, with some event
-abbrev pub Leads : Plan → World → Move → World → Type 0
-Leads plan old move new = (event : Event) × runs.Leads plan move.mode old move.step event new
+-- the transition leads from the one state to the other, with some event
+abbrev pub Leads : Plan → World → Transition → World → Type 0
+Leads plan old transition new = (event : Event) × runs.Leads plan transition.mode old transition.step event new
 
 -- and does so with a bad event
-abbrev pub IsBadMove : Plan → World → Move → World → Type 0
-IsBadMove plan old move new =
-    (event : Event) × runs.Leads plan move.mode old move.step event new × runs.IsBadEvent plan event
+abbrev pub IsBadTransition : Plan → World → Transition → World → Type 0
+IsBadTransition plan old transition new =
+    (event : Event) × runs.Leads plan transition.mode old transition.step event new × runs.IsBadEvent plan event
 
 -- the state is a well shaped one of a sound plan, and the facts in range whose cells these are cover it
 pub record Covers (plan : Plan) (cells : List ℕ) (world : World) : Type 0 where

@@ -5,7 +5,7 @@ ghost use Rattle.net_plan.specs.Plan.{packets_of, boxes_of, box_at, ports_of};
 ghost use Rattle.net_plan.specs.Cells.{cells_of};
 ghost use Rattle.packet_state.specs.Follows.{Follows};
 ghost use Rattle.box_masks.specs.Writes.{IsMaskOf};
-ghost use Rattle.packet_domain.specs.Offered.{Offered};
+ghost use Rattle.move_table.specs.Offered.{Offered};
 ghost use Rattle.packet_domain.specs.Inlet.{IsInlet};
 ghost use Rattle.packet_domain.specs.Reasons.{AsChangedBy, AsChangedFrom, AsChangedAt, AsChanged};
 

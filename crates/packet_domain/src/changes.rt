@@ -6,15 +6,15 @@ ghost use Rattle.net_plan.specs.Ends.{ends_of};
 ghost use Rattle.net_plan.specs.Cells.{cells_of};
 ghost use Rattle.box_masks.specs.Writes.{IsMaskOf};
 ghost use Rattle.abstract_step.specs.Step.{result_at};
-ghost use Rattle.packet_domain.specs.Offered.{Offered};
+ghost use Rattle.move_table.specs.Offered.{Offered};
 ghost use Rattle.packet_domain.specs.Reasons.{IsAnswered, IsChange, SomeChanges, AgreeingChanges, ChangesAt, ChangesAll};
 
 use crate::done::next_mask;
-use crate::offers::offer;
 use abstract_step::Paths;
 use box_masks::{agree, patch};
 use cell_sets::CellSet;
 use fix_engine::Work;
+use move_table::offer;
 use net_plan::{Fact, Network};
 
 fn offer_change<S: CellSet>(

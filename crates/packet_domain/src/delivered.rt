@@ -5,8 +5,9 @@ ghost use Rattle.net_plan.specs.Ends.{ends_of};
 ghost use Rattle.net_plan.specs.Cells.{cells_of};
 ghost use Rattle.box_masks.specs.Writes.{IsMaskOf};
 ghost use Rattle.box_moves.specs.Moves.{IsSized};
-ghost use Rattle.packet_domain.specs.Table.{Adds, MovesBy, MovesTo, MovesFrom, MovesAsOut, MovesAsState, MovesAsStateAt};
-ghost use Rattle.packet_domain.specs.Offered.{Offered};
+ghost use Rattle.move_table.specs.Moves.{Adds, AreFollowed};
+ghost use Rattle.packet_domain.specs.Table.{MovesBy, MovesTo, MovesFrom, MovesAsOut, MovesAsState, MovesAsStateAt};
+ghost use Rattle.move_table.specs.Offered.{Offered};
 ghost use Rattle.packet_domain.specs.Inlet.{IsInlet};
 ghost use Rattle.packet_domain.specs.Reasons.{IsDelivered, IsDeliveredFrom, DeliversTo, AsOut, AsStateAt, AsState};
 
@@ -16,9 +17,9 @@ use crate::laws::step_is_exact;
 use crate::notes::change_by_results;
 use crate::offers::offer_results;
 use abstract_step::Paths;
-use box_moves::Moves;
 use cell_sets::CellSet;
 use fix_engine::Work;
+use move_table::MoveTable;
 use net_plan::laws::partner_is_unique;
 use net_plan::{Fact, Network};
 use std::sync::ledger::Ledger;
@@ -32,25 +33,29 @@ fn deliver<S: CellSet, L: Ledger>(
     inlet: Inlet,
     p: u32,
     v: u16,
-    moves: &mut Moves,
+    table: &mut MoveTable<'_>,
     work: &mut Work<S>,
     steps: &mut Steps<L>,
 )
     requires made { paths.old.plan ≡ net.now }
     requires cells { work.old.cells ≡ cells_of net.now }
-    requires sized { IsSized net.now moves.old }
+    requires table { table.old.plan ≡ net.now }
+    requires sized { IsSized net.now table.old.moves }
+    requires followed { AreFollowed net.now table.old.moves work.old }
     requires inlet { IsInlet net.now inlet }
     requires packet { p < packets_of net.now }
     requires mask { IsMaskOf net.now inlet.b v }
     ensures same { paths.new.plan ≡ paths.old.plan }
+    ensures table { table.new.plan ≡ table.old.plan }
     ensures offered { Offered net.now (IsDelivered net.now work.old.done inlet.end p inlet.b v) work.old work.new }
-    ensures adds { Adds net.now (MovesBy net.now inlet.end p inlet.b v) moves.old moves.new }
+    ensures adds { Adds net.now (MovesBy net.now inlet.end p inlet.b v) table.old.moves table.new.moves }
+    ensures followed { AreFollowed net.now table.new.moves work.new }
 {
     net.sound();
     step_is_exact();
     paths.fire(net, inlet.b, inlet.port, p, v, steps);
     offer_results(net, paths, inlet.b, p, work);
-    change_by_results(net, paths, inlet.b, p, v, moves, work);
+    change_by_results(net, paths, inlet.b, p, v, table, work);
 }
 
 fn deliver_to<S: CellSet, L: Ledger>(
@@ -58,22 +63,26 @@ fn deliver_to<S: CellSet, L: Ledger>(
     paths: &mut Paths<'_>,
     inlet: Inlet,
     p: u32,
-    moves: &mut Moves,
+    table: &mut MoveTable<'_>,
     work: &mut Work<S>,
     steps: &mut Steps<L>,
 )
     requires made { paths.old.plan ≡ net.now }
     requires cells { work.old.cells ≡ cells_of net.now }
-    requires sized { IsSized net.now moves.old }
+    requires table { table.old.plan ≡ net.now }
+    requires sized { IsSized net.now table.old.moves }
+    requires followed { AreFollowed net.now table.old.moves work.old }
     requires inlet { IsInlet net.now inlet }
     requires packet { p < packets_of net.now }
     ensures same { paths.new.plan ≡ paths.old.plan }
+    ensures table { table.new.plan ≡ table.old.plan }
     ensures offered { Offered net.now (DeliversTo net.now work.old.done inlet.end p inlet.b) work.old work.new }
-    ensures adds { Adds net.now (MovesTo net.now work.old.done inlet.end p inlet.b) moves.old moves.new }
+    ensures adds { Adds net.now (MovesTo net.now work.old.done inlet.end p inlet.b) table.old.moves table.new.moves }
+    ensures followed { AreFollowed net.now table.new.moves work.new }
 {
     let mut at = 0;
     while let Some(v) = next_mask(net, work, inlet.b, p, at) {
-        deliver(net, paths, inlet, p, v, moves, work, steps);
+        deliver(net, paths, inlet, p, v, table, work, steps);
         at = v as u32 + 1;
     }
 }
@@ -84,23 +93,27 @@ pub fn deliver_out<S: CellSet, L: Ledger>(
     paths: &mut Paths<'_>,
     end: u32,
     p: u32,
-    moves: &mut Moves,
+    table: &mut MoveTable<'_>,
     work: &mut Work<S>,
     steps: &mut Steps<L>,
 )
     requires made { paths.old.plan ≡ net.now }
     requires cells { work.old.cells ≡ cells_of net.now }
-    requires sized { IsSized net.now moves.old }
+    requires table { table.old.plan ≡ net.now }
+    requires sized { IsSized net.now table.old.moves }
+    requires followed { AreFollowed net.now table.old.moves work.old }
     requires end { end < ends_of net.now }
     requires packet { p < packets_of net.now }
     ensures same { paths.new.plan ≡ paths.old.plan }
+    ensures table { table.new.plan ≡ table.old.plan }
     ensures offered { Offered net.now (AsOut net.now work.old.done end p) work.old work.new }
-    ensures adds { Adds net.now (MovesAsOut net.now work.old.done end p) moves.old moves.new }
+    ensures adds { Adds net.now (MovesAsOut net.now work.old.done end p) table.old.moves table.new.moves }
+    ensures followed { AreFollowed net.now table.new.moves work.new }
 {
     net.sound();
     partner_is_unique();
     if let Some(inlet) = inlet_of_end(net, end) {
-        deliver_to(net, paths, inlet, p, moves, work, steps);
+        deliver_to(net, paths, inlet, p, table, work, steps);
     }
 }
 
@@ -111,25 +124,29 @@ fn deliver_at<S: CellSet, L: Ledger>(
     p: u32,
     v: u16,
     port: u32,
-    moves: &mut Moves,
+    table: &mut MoveTable<'_>,
     work: &mut Work<S>,
     steps: &mut Steps<L>,
 )
     requires made { paths.old.plan ≡ net.now }
     requires cells { work.old.cells ≡ cells_of net.now }
-    requires sized { IsSized net.now moves.old }
+    requires table { table.old.plan ≡ net.now }
+    requires sized { IsSized net.now table.old.moves }
+    requires followed { AreFollowed net.now table.old.moves work.old }
     requires boxed { b < boxes_of net.now }
     requires packet { p < packets_of net.now }
     requires mask { IsMaskOf net.now b v }
     requires port { port < ports_of net.now (box_at net.now b) }
     ensures same { paths.new.plan ≡ paths.old.plan }
+    ensures table { table.new.plan ≡ table.old.plan }
     ensures offered { Offered net.now (AsStateAt net.now work.old.done b p v port) work.old work.new }
-    ensures adds { Adds net.now (MovesAsStateAt net.now work.old.done b p v port) moves.old moves.new }
+    ensures adds { Adds net.now (MovesAsStateAt net.now work.old.done b p v port) table.old.moves table.new.moves }
+    ensures followed { AreFollowed net.now table.new.moves work.new }
 {
     net.sound();
     partner_is_unique();
     if let Some(inlet) = inlet_of_port(net, b, port) {
-        deliver_where_done(net, paths, inlet, p, v, moves, work, steps);
+        deliver_where_done(net, paths, inlet, p, v, table, work, steps);
     }
 }
 
@@ -140,22 +157,26 @@ fn deliver_where_done<S: CellSet, L: Ledger>(
     inlet: Inlet,
     p: u32,
     v: u16,
-    moves: &mut Moves,
+    table: &mut MoveTable<'_>,
     work: &mut Work<S>,
     steps: &mut Steps<L>,
 )
     requires made { paths.old.plan ≡ net.now }
     requires cells { work.old.cells ≡ cells_of net.now }
-    requires sized { IsSized net.now moves.old }
+    requires table { table.old.plan ≡ net.now }
+    requires sized { IsSized net.now table.old.moves }
+    requires followed { AreFollowed net.now table.old.moves work.old }
     requires inlet { IsInlet net.now inlet }
     requires packet { p < packets_of net.now }
     requires mask { IsMaskOf net.now inlet.b v }
     ensures same { paths.new.plan ≡ paths.old.plan }
+    ensures table { table.new.plan ≡ table.old.plan }
     ensures offered { Offered net.now (IsDeliveredFrom net.now work.old.done inlet.end p inlet.b v) work.old work.new }
-    ensures adds { Adds net.now (MovesFrom net.now work.old.done inlet.end p inlet.b v) moves.old moves.new }
+    ensures adds { Adds net.now (MovesFrom net.now work.old.done inlet.end p inlet.b v) table.old.moves table.new.moves }
+    ensures followed { AreFollowed net.now table.new.moves work.new }
 {
     if work.is_done(net.cell_of(Fact::Out(inlet.end, p))) {
-        deliver(net, paths, inlet, p, v, moves, work, steps);
+        deliver(net, paths, inlet, p, v, table, work, steps);
     }
 }
 
@@ -166,21 +187,25 @@ pub fn deliver_state<S: CellSet, L: Ledger>(
     b: u32,
     p: u32,
     v: u16,
-    moves: &mut Moves,
+    table: &mut MoveTable<'_>,
     work: &mut Work<S>,
     steps: &mut Steps<L>,
 )
     requires made { paths.old.plan ≡ net.now }
     requires cells { work.old.cells ≡ cells_of net.now }
-    requires sized { IsSized net.now moves.old }
+    requires table { table.old.plan ≡ net.now }
+    requires sized { IsSized net.now table.old.moves }
+    requires followed { AreFollowed net.now table.old.moves work.old }
     requires boxed { b < boxes_of net.now }
     requires packet { p < packets_of net.now }
     requires mask { IsMaskOf net.now b v }
     ensures same { paths.new.plan ≡ paths.old.plan }
+    ensures table { table.new.plan ≡ table.old.plan }
     ensures offered { Offered net.now (AsState net.now work.old.done b p v) work.old work.new }
-    ensures adds { Adds net.now (MovesAsState net.now work.old.done b p v) moves.old moves.new }
+    ensures adds { Adds net.now (MovesAsState net.now work.old.done b p v) table.old.moves table.new.moves }
+    ensures followed { AreFollowed net.now table.new.moves work.new }
 {
     for port in 0..net.ports(b) {
-        deliver_at(net, paths, b, p, v, port, moves, work, steps);
+        deliver_at(net, paths, b, p, v, port, table, work, steps);
     }
 }

@@ -9,9 +9,9 @@ use crate::react::react;
 use crate::starts::offer_starts;
 use abstract_step::Paths;
 use amdl_tree::NoMemory;
-use box_moves::Moves;
 use cell_sets::CellSet;
 use fix_engine::{AbstractDomain, Work};
+use move_table::MoveTable;
 use net_plan::{Network, Plan};
 use std::alloc::Global;
 use std::marker::Model;
@@ -29,23 +29,22 @@ use step_count::Steps;
 pub struct PacketDomain<'a> {
     net: &'a Network,
     paths: Paths<'a>,
-    moves: Moves,
+    table: MoveTable<'a>,
 }
 
 impl<'a> Model for PacketDomain<'a> {
     ghost use Rattle.std.specs.Prelude.{◌≡◌};
-    ghost use Rattle.box_moves.specs.Moves.{IsSized};
-    ghost use Rattle.packet_domain.specs.Table.{Memory};
-    ghost use Rattle.packet_domain.specs.Coded.{memory_code};
+    ghost use Rattle.move_table.specs.Moves.{Memory};
+    ghost use Rattle.move_table.specs.Coded.{memory_code};
     ghost use Rattle.net_plan.specs.contracts.network.Network as network;
 
     ghost Value = { Memory };
 
     ghost coded = { memory_code network.the_row.coded };
 
-    ghost view = { λ domain. record { plan = domain.net.now; moves = domain.moves } };
+    ghost view = { λ domain. record { plan = domain.net.now; moves = domain.table.moves } };
 
-    ghost invariant = { λ domain. (domain.paths.plan ≡ domain.net.now) × IsSized domain.net.now domain.moves };
+    ghost invariant = { λ domain. (domain.paths.plan ≡ domain.net.now) × (domain.table.plan ≡ domain.net.now) };
 }
 
 impl<'a> PacketDomain<'a> {
@@ -55,8 +54,8 @@ impl<'a> PacketDomain<'a> {
         ensures { IfOk result (λ domain. domain.plan ≡ net.now) }
     {
         let paths = Paths::new(alloc, net)?;
-        let moves = Moves::new(alloc, net)?;
-        Ok(PacketDomain { net, paths, moves })
+        let table = MoveTable::new(alloc, net)?;
+        Ok(PacketDomain { net, paths, table })
     }
 }
 
@@ -76,7 +75,7 @@ impl<'a> AbstractDomain for PacketDomain<'a> {
     }
 
     fn starts<S: CellSet>(&mut self, work: &mut Work<S>) {
-        self.moves.clear(self.net);
+        self.table.clear();
         offer_starts(self.net, work);
     }
 
@@ -86,11 +85,12 @@ impl<'a> AbstractDomain for PacketDomain<'a> {
         work: &mut Work<S>,
         steps: &mut Steps<L>,
     ) {
+        self.table.sound();
         react(
             self.net,
             &mut self.paths,
             cell,
-            &mut self.moves,
+            &mut self.table,
             work,
             steps,
         );

@@ -4,7 +4,7 @@ ghost use Rattle.net_plan.specs.declared.fact.Fact.TheVariants.{State, Out};
 ghost use Rattle.net_plan.specs.Plan.{packets_of, boxes_of, box_at, masks_of};
 ghost use Rattle.net_plan.specs.Ends.{ends_of};
 ghost use Rattle.net_plan.specs.Cells.{cells_of};
-ghost use Rattle.packet_domain.specs.Offered.{IsDone, HasNone, HasNoneFrom, IsDoneIn};
+ghost use Rattle.move_table.specs.Offered.{IsDone, HasNone, HasNoneFrom, IsDoneIn};
 
 use cell_sets::CellSet;
 use fix_engine::Work;

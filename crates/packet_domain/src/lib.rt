@@ -14,5 +14,5 @@ mod offers;
 mod react;
 mod starts;
 
-pub use abstraction::Move;
+pub use abstraction::Transition;
 pub use domain::PacketDomain;

@@ -2,24 +2,16 @@
 ghost use Rattle.std.specs.Prelude.{◌≡◌, ◌<◌, length, All};
 ghost use Rattle.fix_engine.specs.Progress.{Progress};
 ghost use Rattle.net_plan.specs.Plan.{packets_of, boxes_of};
-ghost use Rattle.net_plan.specs.Cells.{IsInRange, cells_of};
+ghost use Rattle.net_plan.specs.Cells.{cells_of};
 ghost use Rattle.abstract_step.specs.Step.{result_at, IsPut};
-ghost use Rattle.packet_domain.specs.Offered.{Offered, Is};
+ghost use Rattle.move_table.specs.Offered.{Offered};
 ghost use Rattle.packet_domain.specs.Reasons.{IsPutOut, ArePutOut, Gives, SomeGives};
 
 use abstract_step::{Paths, Put};
 use cell_sets::CellSet;
 use fix_engine::Work;
+use move_table::offer;
 use net_plan::{Fact, Network};
-
-/// Offers the cell of a fact.
-pub fn offer<S: CellSet>(net: &Network, fact: Fact, work: &mut Work<S>)
-    requires cells { work.old.cells ≡ cells_of net.now }
-    requires in_range { IsInRange net.now fact }
-    ensures { Offered net.now (Is fact) work.old work.new }
-{
-    work.offer(net.cell_of(fact));
-}
 
 fn offer_put<S: CellSet>(net: &Network, b: u32, put: Put, work: &mut Work<S>)
     requires cells { work.old.cells ≡ cells_of net.now }

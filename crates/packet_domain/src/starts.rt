@@ -5,13 +5,13 @@ ghost use Rattle.fix_engine.specs.Progress.{found_in, Grows};
 ghost use Rattle.net_plan.specs.Plan.{packets_of, boxes_of};
 ghost use Rattle.net_plan.specs.Cells.{cells_of};
 ghost use Rattle.packet_domain.specs.Follows.{Follows};
-ghost use Rattle.packet_domain.specs.Offered.{Offered};
+ghost use Rattle.move_table.specs.Offered.{Offered};
 ghost use Rattle.packet_domain.specs.Reasons.{IsSentBy, SendsAny, SendAny, IsFirstAt, FirstAny, FirstsAny};
 
-use crate::offers::offer;
 use box_masks::first_answers;
 use cell_sets::CellSet;
 use fix_engine::Work;
+use move_table::offer;
 use net_plan::{Fact, Network};
 
 fn offer_sent<S: CellSet>(net: &Network, host: u32, p: u32, work: &mut Work<S>)

@@ -1,5 +1,5 @@
 use Rattle.std.proofs.Common.{ℕ, subst}
-use Rattle.packet_domain.specs.Offered.{Offered}
+use Rattle.move_table.specs.Offered.{Offered}
 use Rattle.packet_domain.specs.Reasons.{AsChangedAt}
 use Rattle.packet_domain.proofs.RoleLemmas.{as_changed_at, as_not_changed_at}
 use Rattle.packet_domain.proofs.changed.change_at_port.Goals as goal

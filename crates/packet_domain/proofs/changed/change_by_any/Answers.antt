@@ -1,7 +1,7 @@
 use Rattle.std.proofs.Common.{ℕ, List, [], ◌∷◌, ◌∙◌, arith}
 use Rattle.net_plan.specs.declared.fact.Fact.TheVariants.{Out, State}
 use Rattle.packet_state.specs.Follows.{Follows}
-use Rattle.packet_domain.proofs.OfferedLemmas.{known_turn, known_all}
+use Rattle.move_table.proofs.OfferedLemmas.{known_turn, known_all}
 use Rattle.packet_domain.proofs.changed.change_by_any.Goals as goal
 
 pub loop-v-preserved : goal.loop-v-preserved

@@ -2,8 +2,8 @@ use Rattle.std.proofs.Common.{◌≡◌, ◌-◌, ◌≤◌, [], ◌∷◌}
 use Rattle.net_plan.specs.declared.fact.Fact.TheVariants.{Out, State}
 use Rattle.net_plan.specs.Plan.{box_at, masks_of}
 use Rattle.packet_state.specs.Follows.{Follows}
-use Rattle.packet_domain.specs.Offered.{Offered}
-use Rattle.packet_domain.proofs.OfferedLemmas.{UpTo, Known}
+use Rattle.move_table.specs.Offered.{Offered}
+use Rattle.move_table.proofs.OfferedLemmas.{UpTo, Known}
 use Rattle.packet_domain.proofs.changed.change_by_any.Given as goal
 
 abbrev pub invariant-loop-v : goal.invariant-loop-v

@@ -1,7 +1,7 @@
 use Rattle.std.proofs.Common.{ℕ, List, ◌∙◌, arith}
 use Rattle.net_plan.specs.declared.fact.Fact.TheVariants.{Out}
 use Rattle.packet_domain.specs.Reasons.{AsChangedBy}
-use Rattle.packet_domain.proofs.OfferedLemmas.{known_turn, known_all}
+use Rattle.move_table.proofs.OfferedLemmas.{known_turn, known_all}
 use Rattle.packet_domain.proofs.changed.change_from.Goals as goal
 
 pub overflow_add-at : goal.overflow_add-at

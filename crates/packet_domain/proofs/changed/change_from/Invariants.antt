@@ -1,9 +1,9 @@
 use Rattle.std.proofs.Common.{◌≡◌, ◌-◌, ◌≤◌}
 use Rattle.net_plan.specs.declared.fact.Fact.TheVariants.{Out}
 use Rattle.net_plan.specs.Plan.{packets_of}
-use Rattle.packet_domain.specs.Offered.{Offered}
+use Rattle.move_table.specs.Offered.{Offered}
 use Rattle.packet_domain.specs.Reasons.{AsChangedBy}
-use Rattle.packet_domain.proofs.OfferedLemmas.{UpTo, Known}
+use Rattle.move_table.proofs.OfferedLemmas.{UpTo, Known}
 use Rattle.packet_domain.proofs.changed.change_from.Given as goal
 
 abbrev pub invariant-loop-p : goal.invariant-loop-p

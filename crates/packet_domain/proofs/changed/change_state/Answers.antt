@@ -1,7 +1,7 @@
 use Rattle.std.proofs.Common.{ℕ, ◌<◌, ◌≤◌, List, subst, ◌∙◌}
 use Rattle.net_plan.specs.Plan.{box_at, ports_of}
 use Rattle.packet_domain.specs.Reasons.{AsChangedAt}
-use Rattle.packet_domain.proofs.OfferedLemmas.{below_turn, below_all}
+use Rattle.move_table.proofs.OfferedLemmas.{below_turn, below_all}
 use Rattle.packet_domain.proofs.RoleLemmas.{as_changed}
 use Rattle.packet_domain.proofs.changed.change_state.Goals as goal
 

@@ -1,8 +1,8 @@
 use Rattle.std.proofs.Common.{◌≡◌}
 use Rattle.net_plan.specs.Plan.{box_at, ports_of}
-use Rattle.packet_domain.specs.Offered.{Offered}
+use Rattle.move_table.specs.Offered.{Offered}
 use Rattle.packet_domain.specs.Reasons.{AsChangedAt}
-use Rattle.packet_domain.proofs.OfferedLemmas.{UpTo, Below}
+use Rattle.move_table.proofs.OfferedLemmas.{UpTo, Below}
 use Rattle.packet_domain.proofs.changed.change_state.Given as goal
 
 abbrev pub invariant-loop-port : goal.invariant-loop-port

@@ -2,7 +2,7 @@ use Rattle.std.proofs.Common.{ℕ, ◌<◌, ◌≤◌, List, ap, subst, ◌∙�
 use Rattle.header_set.specs.Headers.{product}
 use Rattle.net_plan.specs.Plan.{packets_of}
 use Rattle.packet_domain.specs.Reasons.{ChangesAt}
-use Rattle.packet_domain.proofs.OfferedLemmas.{below_turn, below_all}
+use Rattle.move_table.proofs.OfferedLemmas.{below_turn, below_all}
 use Rattle.packet_domain.proofs.changes.change_all.Goals as goal
 
 pub loop-q-preserved : goal.loop-q-preserved

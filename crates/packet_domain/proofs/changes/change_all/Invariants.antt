@@ -1,7 +1,7 @@
 use Rattle.net_plan.specs.Plan.{packets_of}
-use Rattle.packet_domain.specs.Offered.{Offered}
+use Rattle.move_table.specs.Offered.{Offered}
 use Rattle.packet_domain.specs.Reasons.{ChangesAt}
-use Rattle.packet_domain.proofs.OfferedLemmas.{UpTo, Below}
+use Rattle.move_table.proofs.OfferedLemmas.{UpTo, Below}
 use Rattle.packet_domain.proofs.changes.change_all.Given as goal
 
 abbrev pub invariant-loop-q : goal.invariant-loop-q

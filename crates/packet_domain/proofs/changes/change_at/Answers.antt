@@ -1,7 +1,7 @@
 use Rattle.std.proofs.Common.{ℕ, List, arith}
 use Rattle.net_plan.specs.declared.fact.Fact.TheVariants.{State}
 use Rattle.packet_domain.specs.Reasons.{AgreeingChanges}
-use Rattle.packet_domain.proofs.OfferedLemmas.{known_turn, known_all}
+use Rattle.move_table.proofs.OfferedLemmas.{known_turn, known_all}
 use Rattle.packet_domain.proofs.changes.change_at.Goals as goal
 
 pub loop-w-preserved : goal.loop-w-preserved

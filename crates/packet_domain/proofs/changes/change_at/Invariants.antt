@@ -1,9 +1,9 @@
 use Rattle.std.proofs.Common.{◌-◌, ◌≤◌}
 use Rattle.net_plan.specs.declared.fact.Fact.TheVariants.{State}
 use Rattle.net_plan.specs.Plan.{box_at, masks_of}
-use Rattle.packet_domain.specs.Offered.{Offered}
+use Rattle.move_table.specs.Offered.{Offered}
 use Rattle.packet_domain.specs.Reasons.{AgreeingChanges}
-use Rattle.packet_domain.proofs.OfferedLemmas.{UpTo, Known}
+use Rattle.move_table.proofs.OfferedLemmas.{UpTo, Known}
 use Rattle.packet_domain.proofs.changes.change_at.Given as goal
 
 abbrev pub invariant-loop-w : goal.invariant-loop-w

@@ -1,6 +1,6 @@
 use Rattle.std.proofs.Common.{sym, subst, ◌∙◌}
 use Rattle.abstract_step.specs.Step.{result_at}
-use Rattle.packet_domain.specs.Reasons.{IsPatch}
+use Rattle.move_table.specs.Moves.{IsPatch}
 use Rattle.packet_domain.proofs.ChangeLemmas.{change_given}
 use Rattle.packet_domain.proofs.changes.offer_change.Goals as goal
 

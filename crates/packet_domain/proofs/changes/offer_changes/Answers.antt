@@ -1,7 +1,7 @@
 use Rattle.std.proofs.Common.{ℕ, ◌≤◌, ◌<◌, subst}
 use Rattle.abstract_step.specs.Step.{Result}
 use Rattle.packet_domain.specs.Reasons.{IsChange}
-use Rattle.packet_domain.proofs.OfferedLemmas.{Member, offered_more, place_turn, members_all}
+use Rattle.move_table.proofs.OfferedLemmas.{Member, offered_more, place_turn, members_all}
 use Rattle.packet_domain.proofs.changes.offer_changes.Goals as goal
 
 pub loop-i-preserved : goal.loop-i-preserved

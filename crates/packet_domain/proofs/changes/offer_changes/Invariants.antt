@@ -1,6 +1,6 @@
-use Rattle.packet_domain.specs.Offered.{Offered}
+use Rattle.move_table.specs.Offered.{Offered}
 use Rattle.packet_domain.specs.Reasons.{IsChange}
-use Rattle.packet_domain.proofs.OfferedLemmas.{UpTo, Member}
+use Rattle.move_table.proofs.OfferedLemmas.{UpTo, Member}
 use Rattle.packet_domain.proofs.changes.offer_changes.Given as goal
 
 abbrev pub invariant-loop-i : goal.invariant-loop-i

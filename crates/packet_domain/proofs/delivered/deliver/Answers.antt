@@ -1,4 +1,5 @@
 use Rattle.packet_domain.proofs.RoleLemmas.{delivered}
+use Rattle.move_table.proofs.WithinLemmas.{followed_stays}
 use Rattle.packet_domain.proofs.MoveLemmas.{moves_by}
 use Rattle.packet_domain.proofs.delivered.deliver.Goals as goal
 
@@ -27,5 +28,10 @@ returns-clause-adds g c =
       packet_in_range = c.requires.packet;
       fired = c.fire.ensures.fired;
     }) in
-    moves_by plan inlet.end c.args.p inlet.b c.args.v c.fire.new.self.results exact c.args.moves.now
-    c.change_by_results.new.moves c.change_by_results.ensures.adds
+    moves_by plan inlet.end c.args.p inlet.b c.args.v c.fire.new.self.results exact c.args.table.now.moves
+    c.change_by_results.new.table.moves c.change_by_results.ensures.adds
+
+pub change_by_results-requires-clause-followed : goal.change_by_results-requires-clause-followed
+change_by_results-requires-clause-followed g c =
+    followed_stays c.args.net.now c.args.table.now.moves c.args.work.now c.offer_results.new.work
+    c.offer_results.ensures.grows c.requires.followed

@@ -1,8 +1,9 @@
 use Rattle.std.proofs.Common.{ℕ, subst}
-use Rattle.packet_domain.specs.Offered.{Offered}
+use Rattle.move_table.specs.Offered.{Offered}
 use Rattle.packet_domain.specs.Reasons.{AsStateAt}
 use Rattle.packet_domain.proofs.RoleLemmas.{as_state_at, as_no_state_at}
-use Rattle.packet_domain.specs.Table.{Adds, MovesAsStateAt}
+use Rattle.move_table.specs.Moves.{Adds}
+use Rattle.packet_domain.specs.Table.{MovesAsStateAt}
 use Rattle.packet_domain.proofs.MoveLemmas.{moves_as_state_at, moves_as_no_state_at}
 use Rattle.packet_domain.proofs.delivered.deliver_at.Goals as goal
 
@@ -28,8 +29,8 @@ pub returns-in-Some-clause-adds : goal.returns-in-Some-clause-adds
 returns-in-Some-clause-adds g c =
     let plan = c.args.net.now in
     let done = c.args.work.now.done in
-    let old = c.args.moves.now in
-    let new = c.deliver_where_done.new.moves in
+    let old = c.args.table.now.moves in
+    let new = c.deliver_where_done.new.table.moves in
     subst (λ (b : ℕ). Adds plan (MovesAsStateAt plan done b c.args.p c.args.v c.args.port) old new) c.in-Some.ensures.0
     (subst (λ (k : ℕ). Adds plan (MovesAsStateAt plan done c.in-Some.inlet.b c.args.p c.args.v k) old new)
     c.in-Some.ensures.1
@@ -38,5 +39,5 @@ returns-in-Some-clause-adds g c =
 
 pub returns-in_default-clause-adds : goal.returns-in_default-clause-adds
 returns-in_default-clause-adds g c =
-    moves_as_no_state_at c.args.net.now c.args.work.now.done c.args.moves.now c.requires.sized c.args.b c.args.p c.args.v
+    moves_as_no_state_at c.args.net.now c.args.work.now.done c.args.table.now.moves c.requires.sized c.args.b c.args.p c.args.v
     c.args.port c.in_default.ensures

@@ -15,7 +15,7 @@ returns-then-is_done-clause-offered g c =
 
 pub returns-then-is_done-clause-adds : goal.returns-then-is_done-clause-adds
 returns-then-is_done-clause-adds g c =
-    moves_where_done c.args.net.now c.args.work.now.done c.args.moves.now c.deliver.new.moves c.args.inlet.b
+    moves_where_done c.args.net.now c.args.work.now.done c.args.table.now.moves c.deliver.new.table.moves c.args.inlet.b
     c.args.inlet.end c.args.p c.args.v (
       (c.requires.inlet.end, c.requires.packet),
       subst (Contains c.args.work.now.done) c.cell_of.ensures.cell (c.is_done.ensures.0 c.if-is_done.true),

@@ -1,9 +1,9 @@
 use Rattle.std.proofs.Common.{ap, ◌∙◌}
 use Rattle.net_plan.specs.declared.fact.Fact.TheVariants.{Out}
 use Rattle.net_plan.specs.declared.fact.Place.TheVariants.{Port}
-use Rattle.packet_domain.specs.Offered.{Is}
+use Rattle.move_table.specs.Offered.{Is}
 use Rattle.packet_domain.specs.Reasons.{IsPutOut}
-use Rattle.packet_domain.proofs.OfferedLemmas.{offered_as}
+use Rattle.move_table.proofs.OfferedLemmas.{offered_as}
 use Rattle.packet_domain.proofs.PlaceLemmas.{end_settled}
 use Rattle.packet_domain.proofs.offers.offer_put.Goals as goal
 

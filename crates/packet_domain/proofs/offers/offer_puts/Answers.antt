@@ -1,5 +1,5 @@
 use Rattle.packet_domain.specs.Reasons.{IsPutOut}
-use Rattle.packet_domain.proofs.OfferedLemmas.{Member, offered_more, place_turn, members_all}
+use Rattle.move_table.proofs.OfferedLemmas.{Member, offered_more, place_turn, members_all}
 use Rattle.packet_domain.proofs.offers.offer_puts.Goals as goal
 
 pub loop-put-preserved : goal.loop-put-preserved

@@ -1,6 +1,6 @@
 use Rattle.std.proofs.Common.{sym, subst, ◌∙◌}
 use Rattle.abstract_step.specs.Step.{result_at}
-use Rattle.packet_domain.specs.Offered.{Offered}
+use Rattle.move_table.specs.Offered.{Offered}
 use Rattle.packet_domain.specs.Reasons.{ArePutOut}
 use Rattle.packet_domain.proofs.OfferLemmas.{abort_given, puts_given}
 use Rattle.packet_domain.proofs.offers.offer_result.Goals as goal

@@ -1,6 +1,6 @@
 use Rattle.std.proofs.Common.{ℕ, ◌≤◌, ◌<◌, subst}
 use Rattle.packet_domain.specs.Reasons.{Gives}
-use Rattle.packet_domain.proofs.OfferedLemmas.{Member, offered_more, place_turn, members_all}
+use Rattle.move_table.proofs.OfferedLemmas.{Member, offered_more, place_turn, members_all}
 use Rattle.packet_domain.proofs.offers.offer_results.Goals as goal
 
 pub loop-i-preserved : goal.loop-i-preserved

@@ -1,6 +1,6 @@
-use Rattle.packet_domain.specs.Offered.{Offered}
+use Rattle.move_table.specs.Offered.{Offered}
 use Rattle.packet_domain.specs.Reasons.{Gives}
-use Rattle.packet_domain.proofs.OfferedLemmas.{UpTo, Member}
+use Rattle.move_table.proofs.OfferedLemmas.{UpTo, Member}
 use Rattle.packet_domain.proofs.offers.offer_results.Given as goal
 
 abbrev pub invariant-loop-i : goal.invariant-loop-i

@@ -1,18 +1,28 @@
-use Rattle.std.proofs.Common.{arith}
+use Rattle.std.proofs.Common.{◌<◌, subst, arith}
+use Rattle.net_plan.specs.declared.plan.Plan.{Plan}
+use Rattle.box_moves.specs.Moves.{masks_at, HasMove, HasNoMoveFrom}
 use Rattle.packet_domain.proofs.MoveLemmas.{move_turn, move_all}
 use Rattle.packet_domain.proofs.react.move_on.Goals as goal
 
 pub loop-other-preserved : goal.loop-other-preserved
 loop-other-preserved g c =
+    let plan = c.args.net.now in
+    let moves = c.args.table.now.moves in
     let found = c.in-Some.ensures in
+    let has = subst (λ (p : Plan). HasMove p moves c.args.b c.args.q c.args.w c.in-Some.other) c.requires.table found.1 in
+    let below : c.in-Some.other < masks_at plan c.args.b = has.is_move.other_is in
     record {
-      turns = move_turn c.args.net.now c.args.moves.now c.args.b c.args.q c.args.w c.loop-other.from c.in-Some.other
-          c.args.work.now c.loop-other.work c.offer.new.work found.0 found.1 found.2 c.loop-other.invariant.turns
-          c.offer.ensures;
-      within = omega (arith, found.1.is_move.other_is);
+      turns = move_turn plan moves c.args.b c.args.q c.args.w c.loop-other.from c.in-Some.other c.args.work.now
+          c.loop-other.work c.offer.new.work found.0 has
+          (subst (λ (p : Plan). HasNoMoveFrom p moves c.args.b c.args.q c.args.w c.loop-other.from c.in-Some.other)
+          c.requires.table found.2) c.loop-other.invariant.turns c.offer.ensures;
+      within = omega (arith, below);
     }
 
 pub returns : goal.returns
 returns g c =
-    move_all c.args.net.now c.args.moves.now c.args.b c.args.q c.args.w c.loop-other.from c.args.work.now
-    c.loop-other.work c.in_default.ensures c.loop-other.invariant.turns
+    let plan = c.args.net.now in
+    let moves = c.args.table.now.moves in
+    move_all plan moves c.args.b c.args.q c.args.w c.loop-other.from c.args.work.now c.loop-other.work
+    (subst (λ (p : Plan). HasNoMoveFrom p moves c.args.b c.args.q c.args.w c.loop-other.from (masks_at p c.args.b))
+    c.requires.table c.in_default.ensures) c.loop-other.invariant.turns

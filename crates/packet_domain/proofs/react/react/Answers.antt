@@ -26,5 +26,5 @@ pub returns-clause-tracks : goal.returns-clause-tracks
 returns-clause-tracks g c =
     tracks_on c.args.net.now c.requires.tracks.0 c.args.work.now c.fact_at.result c.fact_at.ensures.in_range
     (subst (λ (cell : ℕ). Takes c.requires.tracks.0 cell c.args.work.now) (sym c.fact_at.ensures.cell) c.requires.tracks.1)
-    c.args.moves.now c.requires.tracks.2 c.react_to.new.moves c.react_to.new.work c.react_to.ensures.adds
+    c.args.table.now.moves c.requires.tracks.2 c.react_to.new.table.moves c.react_to.new.work c.react_to.ensures.adds
     c.react_to.ensures.offered

@@ -1,7 +1,7 @@
 use Rattle.std.proofs.Common.{ℕ, ◌<◌, ◌≤◌, List, subst}
 use Rattle.net_plan.specs.Plan.{boxes_of}
 use Rattle.packet_domain.specs.Reasons.{FirstAny}
-use Rattle.packet_domain.proofs.OfferedLemmas.{below_turn, below_all}
+use Rattle.move_table.proofs.OfferedLemmas.{below_turn, below_all}
 use Rattle.packet_domain.proofs.starts.offer_all_first.Goals as goal
 
 pub loop-b-preserved : goal.loop-b-preserved

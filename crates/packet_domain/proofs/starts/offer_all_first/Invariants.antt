@@ -1,7 +1,7 @@
 use Rattle.net_plan.specs.Plan.{boxes_of}
-use Rattle.packet_domain.specs.Offered.{Offered}
+use Rattle.move_table.specs.Offered.{Offered}
 use Rattle.packet_domain.specs.Reasons.{FirstAny}
-use Rattle.packet_domain.proofs.OfferedLemmas.{UpTo, Below}
+use Rattle.move_table.proofs.OfferedLemmas.{UpTo, Below}
 use Rattle.packet_domain.proofs.starts.offer_all_first.Given as goal
 
 abbrev pub invariant-loop-b : goal.invariant-loop-b

@@ -1,6 +1,6 @@
 use Rattle.std.proofs.Common.{ℕ, ◌<◌, ◌≤◌, List, length, subst}
 use Rattle.packet_domain.specs.Reasons.{SendsAny}
-use Rattle.packet_domain.proofs.OfferedLemmas.{below_turn, below_all}
+use Rattle.move_table.proofs.OfferedLemmas.{below_turn, below_all}
 use Rattle.packet_domain.proofs.starts.offer_all_sent.Goals as goal
 
 pub loop-host-preserved : goal.loop-host-preserved

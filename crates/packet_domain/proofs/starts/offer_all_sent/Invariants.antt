@@ -1,7 +1,7 @@
 use Rattle.std.proofs.Common.{length}
-use Rattle.packet_domain.specs.Offered.{Offered}
+use Rattle.move_table.specs.Offered.{Offered}
 use Rattle.packet_domain.specs.Reasons.{SendsAny}
-use Rattle.packet_domain.proofs.OfferedLemmas.{UpTo, Below}
+use Rattle.move_table.proofs.OfferedLemmas.{UpTo, Below}
 use Rattle.packet_domain.proofs.starts.offer_all_sent.Given as goal
 
 abbrev pub invariant-loop-host : goal.invariant-loop-host

@@ -4,7 +4,7 @@ use Rattle.net_plan.specs.Plan.{box_at, masks_of}
 use Rattle.net_runs.specs.World.{environment_of}
 use Rattle.packet_state.specs.Answers.{class_of_box}
 use Rattle.packet_state.proofs.MaskLemmas.{answers_below}
-use Rattle.packet_domain.specs.Offered.{Offered, Is}
+use Rattle.move_table.specs.Offered.{Offered, Is}
 use Rattle.packet_domain.proofs.starts.offer_first.Goals as goal
 
 pub offer-requires-clause-in_range : goal.offer-requires-clause-in_range

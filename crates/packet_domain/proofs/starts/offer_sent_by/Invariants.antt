@@ -1,7 +1,7 @@
 use Rattle.net_plan.specs.Plan.{packets_of}
-use Rattle.packet_domain.specs.Offered.{Offered}
+use Rattle.move_table.specs.Offered.{Offered}
 use Rattle.packet_domain.specs.Reasons.{IsSentBy}
-use Rattle.packet_domain.proofs.OfferedLemmas.{UpTo, Below}
+use Rattle.move_table.proofs.OfferedLemmas.{UpTo, Below}
 use Rattle.packet_domain.proofs.starts.offer_sent_by.Given as goal
 
 abbrev pub invariant-loop-p : goal.invariant-loop-p

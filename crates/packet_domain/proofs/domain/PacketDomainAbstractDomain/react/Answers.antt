@@ -4,7 +4,7 @@ use Rattle.amdl_tree.specs.Derivation.{IsDerivable}
 use Rattle.fix_engine.specs.Progress.{found_in}
 use Rattle.fix_engine.specs.Rules.{GivenOrFollows, HasReacted}
 use Rattle.packet_domain.specs.Follows.{Follows}
-use Rattle.packet_domain.specs.Table.{Memory}
+use Rattle.move_table.specs.Moves.{Memory}
 use Rattle.packet_domain.proofs.domain.PacketDomainAbstractDomain.react.Goals as goal
 
 pub returns-clause-all : goal.returns-clause-all
