@@ -2,5 +2,9 @@ mod BoxLemmas
 mod FirewallDerived
 mod FirewallLemmas
 mod FirewallSound
+mod ForgetfulDerived
+mod ForgetfulLemmas
+mod ForgetfulSafe
+mod LoopDerived
 mod LoopLemmas
 mod WireLemmas

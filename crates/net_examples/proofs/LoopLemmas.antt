@@ -36,7 +36,7 @@ env packet = environment_of loop_plan gate packet
 abbrev links : List LinkPlan
 links = record { one = 0; two = 1 } ∷ record { one = 2; two = 3 } ∷ []
 
-first_link : IsLinkedBy links 0 1
+pub first_link : IsLinkedBy links 0 1
 first_link = (
   record { one = 0; two = 1 },
   head_contained (record { one = 0; two = 1 }) (record { one = 2; two = 3 } ∷ []),
@@ -44,7 +44,7 @@ first_link = (
       (refl, refl),
 )
 
-second_link : IsLinkedBy links 2 3
+pub second_link : IsLinkedBy links 2 3
 second_link = (
   record { one = 2; two = 3 },
   tail_contained (record { one = 0; two = 1 }) (record { one = 2; two = 3 }) (record { one = 2; two = 3 } ∷ [])
@@ -66,6 +66,22 @@ bare other (link, there, joins) =
     no_end one two other less below (inl joined) = let here : one ≡ 4 = joined.0 in absurd (omega arith)
     no_end one two other less below (inr joined) = let here : two ≡ 4 = joined.1 in absurd (omega arith)
 
+-- what the host may send
+
+pub sends_any : (packet : ℕ) → Sends loop_plan 0 packet
+sends_any packet = (
+  0,
+  None ∷ None ∷ None ∷ None ∷ None ∷ None ∷ None ∷ None ∷ [],
+  lit< tt,
+  refl,
+  record { each = λ k x less fixed. absurd (nothing_fixed k x less fixed) },
+)
+  where
+    nothing_fixed : (k x : ℕ) → k < 1 →
+        fixed_at (None ∷ None ∷ None ∷ None ∷ None ∷ None ∷ None ∷ None ∷ []) k ≡ Some x → ⊥
+    nothing_fixed zero x less fixed = cc
+    nothing_fixed (suc k) x less fixed = absurd (omega arith)
+
 -- what is put out
 
 there_put : (packet : ℕ) (sent round : List ℕ) (contents : List Entry) →
@@ -85,6 +101,10 @@ next_head Unordered packet rest = tt
 next_head Ordered packet rest = (rest, refl)
 
 -- executions
+
+-- what the open door puts out
+abbrev pub three : List Emission
+three = record { port = 1; packet = 0 } ∷ record { port = 3; packet = 0 } ∷ record { port = 1; packet = 1 } ∷ []
 
 module _ (guards : GuardMeanings) (statements : StatementMeanings) where
   one_probe : (e : Environment) (contents : List Entry) (probe : Probe) (body : List Act) →
@@ -129,9 +149,6 @@ module _ (guards : GuardMeanings) (statements : StatementMeanings) where
   changed_0 = record { in_range = lit< tt; fields = refl }
 
   -- at the open door
-  abbrev three : List Emission
-  three = record { port = 1; packet = 0 } ∷ record { port = 3; packet = 0 } ∷ record { port = 1; packet = 1 } ∷ []
-
   abbrev passed : Outcome
   passed = Done [] three
 
@@ -148,7 +165,7 @@ module _ (guards : GuardMeanings) (statements : StatementMeanings) where
   unfolding field_of
   has_open = ((guards (env 0) open_a).has opened).1 (0, lit< tt, refl)
 
-  door_passes : Handles loop_plan 0 0 0 open_a (0 ∷ []) passed
+  pub door_passes : Handles loop_plan 0 0 0 open_a (0 ∷ []) passed
   door_passes = record {
     box_plan = record { name = codes "g"; class = 0; first = open_a };
     class = gate;
@@ -238,7 +255,7 @@ module _ (guards : GuardMeanings) (statements : StatementMeanings) where
         });
   }
 
-  round_aborts : (contents : List Entry) → Handles loop_plan 0 2 1 contents (1 ∷ []) Outcome.Aborted
+  pub round_aborts : (contents : List Entry) → Handles loop_plan 0 2 1 contents (1 ∷ []) Outcome.Aborted
   unfolding field_of
   round_aborts contents = record {
     box_plan = record { name = codes "g"; class = 0; first = open_a };
@@ -268,20 +285,6 @@ module _ (guards : GuardMeanings) (statements : StatementMeanings) where
   }
 
   -- steps
-
-  sends_any : (packet : ℕ) → Sends loop_plan 0 packet
-  sends_any packet = (
-    0,
-    None ∷ None ∷ None ∷ None ∷ None ∷ None ∷ None ∷ None ∷ [],
-    lit< tt,
-    refl,
-    record { each = λ k x less fixed. absurd (nothing_fixed k x less fixed) },
-  )
-    where
-      nothing_fixed : (k x : ℕ) → k < 1 →
-          fixed_at (None ∷ None ∷ None ∷ None ∷ None ∷ None ∷ None ∷ None ∷ []) k ≡ Some x → ⊥
-      nothing_fixed zero x less fixed = cc
-      nothing_fixed (suc k) x less fixed = absurd (omega arith)
 
   send_step : (mode : Mode) (sent round : List ℕ) (contents : List Entry) →
       Leads loop_plan mode (state sent round contents) (Send 0 0) Moved (state (sent ++ 0 ∷ []) round contents)

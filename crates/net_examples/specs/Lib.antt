@@ -1,4 +1,5 @@
 pub mod Boxes
 pub mod Firewall
+pub mod Forgetful
 pub mod Loop
 pub mod Wire

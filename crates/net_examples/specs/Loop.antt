@@ -1,6 +1,7 @@
 -- A box that is linked to itself, by hand: a gate that lets one packet through, a way round, an abort, and a port
 -- without a link.
 use Rattle.std.specs.Prelude.{ℕ, List, [], ◌∷◌, None, codes}
+use Rattle.amdl_tree.specs.Derivation.{IsDerivable}
 use Rattle.box_contents.specs.declared.entry.Entry.{Entry}
 use Rattle.box_handlers.specs.declared.act.Term.TheVariants.{Field, Value}
 use Rattle.box_handlers.specs.declared.act.Change.{Change}
@@ -12,12 +13,15 @@ use Rattle.box_handlers.specs.declared.act.Act.{Act}
 use Rattle.box_handlers.specs.declared.act.Act.TheVariants.{Remove, Output, Abort, Choose}
 use Rattle.net_plan.specs.declared.plan.Plan.{Plan}
 use Rattle.net_plan.specs.declared.plan.ClassPlan.{ClassPlan}
+use Rattle.net_plan.specs.declared.fact.Fact.TheVariants as facts
+use Rattle.net_plan.specs.Follows.{IsBad}
 use Rattle.net_runs.specs.declared.world.Mode.{Mode}
 use Rattle.net_runs.specs.declared.world.Step.{Step}
 use Rattle.net_runs.specs.declared.world.Step.TheVariants.{Send, Deliver, Revert}
 use Rattle.net_runs.specs.declared.world.Event.TheVariants.{Moved, Aborted}
 use Rattle.net_runs.specs.declared.world.World.{World}
 use Rattle.net_runs.specs.World.{first_world, Leads, Run, IsBadEvent}
+use Rattle.packet_state.specs.Follows.{Follows}
 
 -- open(dst)
 abbrev pub opened : Query
@@ -117,3 +121,8 @@ pub record IsAbortedRun (mode : Mode) : Type 0 where
 
 abbrev pub AbortedRunByHand : Type 0
 AbortedRunByHand = (mode : Mode) → IsAbortedRun mode
+
+-- the fact of that abort is derivable, and bad
+pub record AbortedFactIsDerivable : Type 0 where
+  pub derivable : IsDerivable (Follows loop_plan) (facts.Abort 0 1)
+  pub bad : IsBad loop_plan (facts.Abort 0 1)

@@ -1,10 +1,12 @@
-//! Runs of two hosts on a wire and of a box that is linked to itself, the ends and cells of a network with boxes, and
-//! the facts that cover all runs of a firewall, worked out by hand. Each is the contract of a function that does nothing.
+//! Runs of two hosts on a wire, of a box that is linked to itself and of one that forgets what it blocks, the ends and
+//! cells of a network with boxes, and the facts that cover all runs of a firewall, worked out by hand. Each is the
+//! contract of a function that does nothing.
 #![tactic(auto)]
 
 ghost use Rattle.net_examples.specs.Wire.{TwiceDelivered, NoThirdDelivery, BadRunByHand, NoOrderedBadRun};
 ghost use Rattle.net_examples.specs.Wire.{NothingElseEnabled, SafeWireRunsSafely};
-ghost use Rattle.net_examples.specs.Loop.{LoopStepsByHand, AbortedRunByHand};
+ghost use Rattle.net_examples.specs.Loop.{LoopStepsByHand, AbortedRunByHand, AbortedFactIsDerivable};
+ghost use Rattle.net_examples.specs.Forgetful.{RevertedRunByHand, RevertedFactIsDerivable, SafeWithoutReverts};
 ghost use Rattle.net_examples.specs.Boxes.{BoxesAreSound, EndsByHand, PartnersByHand, NamesByHand, CellsByHand};
 ghost use Rattle.net_examples.specs.Boxes.{BadByHand};
 ghost use Rattle.net_examples.specs.Firewall.{FirewallIsSafe, FirewallFactsAreLeast};
@@ -63,6 +65,39 @@ pub fn aborted_run_by_hand()
 {
     guard_meanings();
     statement_meanings();
+}
+
+/// The fact of that abort is derivable, so that the network is unsafe by its facts too.
+pub fn aborted_fact_is_derivable()
+    ensures { AbortedFactIsDerivable }
+{
+    guard_meanings();
+    statement_meanings();
+}
+
+/// A box forgets its block list by a revert, and lets a packet through that the host behind it forbids: this is a run
+/// in either mode.
+pub fn reverted_run_by_hand()
+    ensures { RevertedRunByHand }
+{
+    bodies_are_read();
+    formulas_are_read();
+}
+
+/// The fact of that delivery is derivable.
+pub fn reverted_fact_is_derivable()
+    ensures { RevertedFactIsDerivable }
+{
+    bodies_are_read();
+    formulas_are_read();
+}
+
+/// Without a revert no run of that network is bad, over either kind of channels.
+pub fn safe_without_reverts()
+    ensures { SafeWithoutReverts }
+{
+    bodies_are_read();
+    formulas_are_read();
 }
 
 /// The plan of a network with two boxes is sound.
