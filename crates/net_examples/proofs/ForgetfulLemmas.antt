@@ -1,5 +1,5 @@
 -- The box that forgets its block list, by hand: its handlers, and a run with a revert.
-use Rattle.std.proofs.Common.{◌≡◌, ℕ, zero, suc, ◌<◌, true, List, [], ◌∷◌, ◌++◌, Some, None, refl, sym, ap, subst}
+use Rattle.std.proofs.Common.{◌≡◌, ℕ, zero, suc, true, List, [], ◌∷◌, ◌++◌, Some, None, refl, sym, ap, subst}
 use Rattle.std.proofs.Common.{◌∙◌, inl, inr, lit<, codes, replicate}
 use Rattle.std.specs.List.{Contains}
 use Rattle.header_set.specs.Headers.{field_of}

@@ -5,6 +5,7 @@ mod FirewallSound
 mod ForgetfulDerived
 mod ForgetfulLemmas
 mod ForgetfulSafe
+mod ForgetfulSound
 mod LoopDerived
 mod LoopLemmas
 mod WireLemmas

@@ -14,6 +14,7 @@ use Rattle.net_plan.specs.declared.plan.Plan.{Plan}
 use Rattle.net_plan.specs.declared.plan.ClassPlan.{ClassPlan}
 use Rattle.net_plan.specs.declared.fact.Fact.TheVariants.{Out}
 use Rattle.net_plan.specs.Follows.{IsBad}
+use Rattle.net_plan.specs.Sound.{IsSound}
 use Rattle.net_runs.specs.declared.world.Mode.{Mode}
 use Rattle.net_runs.specs.declared.world.Step.{Step}
 use Rattle.net_runs.specs.declared.world.Step.TheVariants.{Send, Deliver, Revert}
@@ -62,6 +63,9 @@ forgetful = record {
   boxes = record { name = codes "g"; class = 0; first = [] } ∷ [];
   links = record { one = 0; two = 2 } ∷ record { one = 3; two = 1 } ∷ record { one = 4; two = 5 } ∷ [];
 }
+
+abbrev pub ForgetfulIsSound : Type 0
+ForgetfulIsSound = IsSound forgetful
 
 -- what p sent and waits for the inlet, what waits on the way round, what goes to q, and the contents of g
 abbrev pub state : List ℕ → List ℕ → List ℕ → List Entry → World

@@ -6,7 +6,8 @@
 ghost use Rattle.net_examples.specs.Wire.{TwiceDelivered, NoThirdDelivery, BadRunByHand, NoOrderedBadRun};
 ghost use Rattle.net_examples.specs.Wire.{NothingElseEnabled, SafeWireRunsSafely};
 ghost use Rattle.net_examples.specs.Loop.{LoopStepsByHand, AbortedRunByHand, AbortedFactIsDerivable};
-ghost use Rattle.net_examples.specs.Forgetful.{RevertedRunByHand, RevertedFactIsDerivable, SafeWithoutReverts};
+ghost use Rattle.net_examples.specs.Forgetful.{ForgetfulIsSound, RevertedRunByHand, RevertedFactIsDerivable};
+ghost use Rattle.net_examples.specs.Forgetful.{SafeWithoutReverts};
 ghost use Rattle.net_examples.specs.Boxes.{BoxesAreSound, EndsByHand, PartnersByHand, NamesByHand, CellsByHand};
 ghost use Rattle.net_examples.specs.Boxes.{BadByHand};
 ghost use Rattle.net_examples.specs.Firewall.{FirewallIsSafe, FirewallFactsAreLeast};
@@ -73,6 +74,14 @@ pub fn aborted_fact_is_derivable()
 {
     guard_meanings();
     statement_meanings();
+}
+
+/// The plan of a network whose box forgets its block list is sound.
+pub fn forgetful_is_sound()
+    ensures { ForgetfulIsSound }
+{
+    bodies_are_read();
+    formulas_are_read();
 }
 
 /// A box forgets its block list by a revert, and lets a packet through that the host behind it forbids: this is a run
