@@ -27,7 +27,7 @@ use Rattle.net_runs.specs.declared.world.Event.TheVariants.{Moved, Delivered}
 use Rattle.net_runs.specs.declared.world.World.{World}
 use Rattle.net_runs.specs.World.{first_world, Run, IsNext, PutsOut, environment_of, Handles, Leads}
 use Rattle.net_examples.specs.Forgetful.{blocked_word, at_inlet, at_back, blocker, any_word, forgetful, state, blocked_a}
-use Rattle.net_examples.specs.Forgetful.{way_round, after_that, RevertedRunByHand}
+use Rattle.net_examples.specs.Forgetful.{way_round, after_that, RevertedRunByHand, ForgetfulIsUnsafe}
 
 -- links
 
@@ -410,3 +410,9 @@ module _ (bodies : BodiesAreRead) (formulas : FormulasAreRead) where
     );
     bad = (lit< tt, q_forbids);
   }
+
+  pub forgetful_is_unsafe : ForgetfulIsUnsafe
+  forgetful_is_unsafe safe =
+      safe Unordered (way_round ++ after_that)
+      (Moved ∷ Moved ∷ Moved ∷ Moved ∷ Moved ∷ Moved ∷ Moved ∷ Delivered 1 0 ∷ []) (state [] [] [] [])
+      (reverted_run Unordered).run (Delivered 1 0) (7, lit< tt, refl) (lit< tt, q_forbids)

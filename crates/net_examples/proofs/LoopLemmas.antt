@@ -26,7 +26,7 @@ use Rattle.net_runs.specs.declared.world.Step.TheVariants.{Send, Deliver, Revert
 use Rattle.net_runs.specs.declared.world.Event.TheVariants.{Moved, Aborted}
 use Rattle.net_runs.specs.World.{IsNext, PutsOut, IsUnlinked, environment_of, Handles, Leads}
 use Rattle.net_examples.specs.Loop.{opened, to_b, where_true, passing, at_door, at_back, gate, loop_plan, state, open_a}
-use Rattle.net_examples.specs.Loop.{LoopStepsByHand, AbortedRunByHand}
+use Rattle.net_examples.specs.Loop.{way_round, LoopStepsByHand, AbortedRunByHand, LoopIsUnsafe}
 
 abbrev env : ℕ → Environment
 env packet = environment_of loop_plan gate packet
@@ -467,3 +467,8 @@ module _ (guards : GuardMeanings) (statements : StatementMeanings) where
     );
     bad = tt;
   }
+
+  pub loop_is_unsafe : LoopIsUnsafe
+  loop_is_unsafe safe =
+      safe Unordered way_round (Moved ∷ Moved ∷ Moved ∷ Aborted 0 1 ∷ Moved ∷ []) (state [] (1 ∷ []) open_a)
+      (aborted_run Unordered).run (Aborted 0 1) (3, lit< tt, refl) tt

@@ -21,7 +21,7 @@ use Rattle.net_runs.specs.declared.world.Step.TheVariants.{Send, Deliver, Revert
 use Rattle.net_runs.specs.declared.world.Event.{Event}
 use Rattle.net_runs.specs.declared.world.Event.TheVariants.{Moved, Delivered}
 use Rattle.net_runs.specs.declared.world.World.{World}
-use Rattle.net_runs.specs.World.{first_world, Leads, Run, IsBadEvent}
+use Rattle.net_runs.specs.World.{first_world, Leads, Run, IsBadEvent, HasNoBadRun}
 use Rattle.packet_state.specs.Follows.{Follows}
 
 -- blocked(word)
@@ -99,6 +99,9 @@ pub record IsRevertedRun (mode : Mode) : Type 0 where
 
 abbrev pub RevertedRunByHand : Type 0
 RevertedRunByHand = (mode : Mode) → IsRevertedRun mode
+
+abbrev pub ForgetfulIsUnsafe : Type 0
+ForgetfulIsUnsafe = HasNoBadRun forgetful → ⊥
 
 -- what the first contents let through stays derivable: the fact of that delivery is, and it is bad
 pub record RevertedFactIsDerivable : Type 0 where

@@ -20,7 +20,7 @@ use Rattle.net_runs.specs.declared.world.Step.{Step}
 use Rattle.net_runs.specs.declared.world.Step.TheVariants.{Send, Deliver, Revert}
 use Rattle.net_runs.specs.declared.world.Event.TheVariants.{Moved, Aborted}
 use Rattle.net_runs.specs.declared.world.World.{World}
-use Rattle.net_runs.specs.World.{first_world, Leads, Run, IsBadEvent}
+use Rattle.net_runs.specs.World.{first_world, Leads, Run, IsBadEvent, HasNoBadRun}
 use Rattle.packet_state.specs.Follows.{Follows}
 
 -- open(dst)
@@ -121,6 +121,9 @@ pub record IsAbortedRun (mode : Mode) : Type 0 where
 
 abbrev pub AbortedRunByHand : Type 0
 AbortedRunByHand = (mode : Mode) → IsAbortedRun mode
+
+abbrev pub LoopIsUnsafe : Type 0
+LoopIsUnsafe = HasNoBadRun loop_plan → ⊥
 
 -- the fact of that abort is derivable, and bad
 pub record AbortedFactIsDerivable : Type 0 where

@@ -5,9 +5,9 @@
 
 ghost use Rattle.net_examples.specs.Wire.{TwiceDelivered, NoThirdDelivery, BadRunByHand, NoOrderedBadRun};
 ghost use Rattle.net_examples.specs.Wire.{NothingElseEnabled, SafeWireRunsSafely};
-ghost use Rattle.net_examples.specs.Loop.{LoopStepsByHand, AbortedRunByHand, AbortedFactIsDerivable};
+ghost use Rattle.net_examples.specs.Loop.{LoopStepsByHand, AbortedRunByHand, LoopIsUnsafe, AbortedFactIsDerivable};
 ghost use Rattle.net_examples.specs.Forgetful.{ForgetfulIsSound, RevertedRunByHand, RevertedFactIsDerivable};
-ghost use Rattle.net_examples.specs.Forgetful.{SafeWithoutReverts};
+ghost use Rattle.net_examples.specs.Forgetful.{ForgetfulIsUnsafe, SafeWithoutReverts};
 ghost use Rattle.net_examples.specs.Boxes.{BoxesAreSound, EndsByHand, PartnersByHand, NamesByHand, CellsByHand};
 ghost use Rattle.net_examples.specs.Boxes.{BadByHand};
 ghost use Rattle.net_examples.specs.Firewall.{FirewallIsSafe, FirewallFactsAreLeast};
@@ -68,6 +68,14 @@ pub fn aborted_run_by_hand()
     statement_meanings();
 }
 
+/// So it isn't the case that no run of that network is bad.
+pub fn loop_is_unsafe()
+    ensures { LoopIsUnsafe }
+{
+    guard_meanings();
+    statement_meanings();
+}
+
 /// The fact of that abort is derivable, so that the network is unsafe by its facts too.
 pub fn aborted_fact_is_derivable()
     ensures { AbortedFactIsDerivable }
@@ -88,6 +96,14 @@ pub fn forgetful_is_sound()
 /// in either mode.
 pub fn reverted_run_by_hand()
     ensures { RevertedRunByHand }
+{
+    bodies_are_read();
+    formulas_are_read();
+}
+
+/// So it isn't the case that no run of that network is bad.
+pub fn forgetful_is_unsafe()
+    ensures { ForgetfulIsUnsafe }
 {
     bodies_are_read();
     formulas_are_read();
