@@ -102,7 +102,7 @@ listed (Abort box packet) is = absurd is
 -- packets
 
 -- the two packets are told apart by their field
-one_packet : (p q : ℕ) → p < 2 → q < 2 → field_of (2 ∷ []) p 0 ≡ field_of (2 ∷ []) q 0 → p ≡ q
+pub one_packet : (p q : ℕ) → p < 2 → q < 2 → field_of (2 ∷ []) p 0 ≡ field_of (2 ∷ []) q 0 → p ≡ q
 one_packet zero zero less below e = refl
 one_packet zero (suc zero) less below e =
     absurd (let never : ◌≡◌ {A = ℕ} 0 1 = sym field_is_not ∙ e ∙ field_is in omega (arith, never))

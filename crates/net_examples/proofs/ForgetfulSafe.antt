@@ -50,10 +50,10 @@ record IsQuiet (world : World) : Type 0 where
 -- links
 
 -- nothing waits out of this end
-abbrev IsStill : ℕ → Type 0
+abbrev pub IsStill : ℕ → Type 0
 IsStill from = (sent round : List ℕ) (contents : List Entry) → Waits (state sent round [] contents) from []
 
-abbrev ComesFrom : ℕ → ℕ → Type 0
+abbrev pub ComesFrom : ℕ → ℕ → Type 0
 ComesFrom from end = ((from ≡ 0) × (end ≡ 2)) ⊎ (((from ≡ 4) × (end ≡ 5)) ⊎ IsStill from)
 
 still_at : (from at : ℕ) → at ≡ from → IsStill at → IsStill from
@@ -66,7 +66,7 @@ joined one two from end (inl here) (inr (inl first)) still = inr (inl (sym here.
 joined one two from end (inl here) (inr (inr first)) still = inr (inr (still_at from one here.0 first))
 joined one two from end (inr here) first still = inr (inr (still_at from two here.1 still))
 
-comes_from : (from end : ℕ) → IsLinked forgetful from end → ComesFrom from end
+pub comes_from : (from end : ℕ) → IsLinked forgetful from end → ComesFrom from end
 comes_from from end linked =
     elim (contained_cases sent_link linked.0 (passed_link ∷ round_link ∷ []) linked.1) [
       | inl same ↦ joined 0 2 from end (moved sent_link same) (inl (refl, refl)) (λ _ _ _. refl)

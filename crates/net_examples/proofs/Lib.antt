@@ -8,4 +8,6 @@ mod ForgetfulSafe
 mod ForgetfulSound
 mod LoopDerived
 mod LoopLemmas
+mod OvertakenLemmas
+mod OvertakenSafe
 mod WireLemmas

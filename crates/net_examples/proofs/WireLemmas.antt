@@ -245,7 +245,7 @@ after_delivery mode packets packet old new event was (inl leads) =
 after_delivery mode packets packet old new event was (inr leads) = absurd (no_port 1 leads.box leads.port leads.at_port)
 
 -- the first copy of the head is the head
-head_is_first : (packet : ℕ) (packets front rest : List ℕ) → packet ∷ packets ≡ front ++ (packet ∷ rest) →
+pub head_is_first : (packet : ℕ) (packets front rest : List ℕ) → packet ∷ packets ≡ front ++ (packet ∷ rest) →
     (Contains front packet → ⊥) → front ++ rest ≡ packets
 head_is_first packet packets [] rest e first = cc
 head_is_first packet packets (x ∷ front) rest e first =

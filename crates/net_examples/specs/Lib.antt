@@ -2,4 +2,5 @@ pub mod Boxes
 pub mod Firewall
 pub mod Forgetful
 pub mod Loop
+pub mod Overtaken
 pub mod Wire

@@ -8,6 +8,7 @@ ghost use Rattle.net_examples.specs.Wire.{NothingElseEnabled, SafeWireRunsSafely
 ghost use Rattle.net_examples.specs.Loop.{LoopStepsByHand, AbortedRunByHand, LoopIsUnsafe, AbortedFactIsDerivable};
 ghost use Rattle.net_examples.specs.Forgetful.{ForgetfulIsSound, RevertedRunByHand, RevertedFactIsDerivable};
 ghost use Rattle.net_examples.specs.Forgetful.{ForgetfulIsUnsafe, SafeWithoutReverts};
+ghost use Rattle.net_examples.specs.Overtaken.{OvertakenByHand, SafeInOrder};
 ghost use Rattle.net_examples.specs.Boxes.{BoxesAreSound, EndsByHand, PartnersByHand, NamesByHand, CellsByHand};
 ghost use Rattle.net_examples.specs.Boxes.{BadByHand};
 ghost use Rattle.net_examples.specs.Firewall.{FirewallIsSafe, FirewallFactsAreLeast};
@@ -120,6 +121,22 @@ pub fn reverted_fact_is_derivable()
 /// Without a revert no run of that network is bad, over either kind of channels.
 pub fn safe_without_reverts()
     ensures { SafeWithoutReverts }
+{
+    bodies_are_read();
+    formulas_are_read();
+}
+
+/// Over unordered channels a packet overtakes another and gets to a host that forbids it.
+pub fn overtaken_by_hand()
+    ensures { OvertakenByHand }
+{
+    bodies_are_read();
+    formulas_are_read();
+}
+
+/// Over ordered channels no run of that network is bad.
+pub fn safe_in_order()
+    ensures { SafeInOrder }
 {
     bodies_are_read();
     formulas_are_read();
