@@ -2,7 +2,7 @@
 use Rattle.std.proofs.Common.{◌≡◌, ◌≢◌, ℕ, ◌+◌, ◌*◌, ◌/◌, ◌%◌, ◌^◌, ◌<◌, ◌≤◌, Bool, true, false, List, [], ◌∷◌, ◌++◌, replicate}
 use Rattle.std.proofs.Common.{length, length-append, get_or, set, refl, sym, ap, subst, ◌∙◌, ◌⊎◌, ◌↔◌, inl, inr, arith}
 use Rattle.std.proofs.lemmas.Bool.{cases_lt, cases_eq, le-leb}
-use Rattle.std.proofs.lemmas.Nat.{div-mul-add, mod-mul-add, pow_below}
+use Rattle.std.proofs.lemmas.Nat.{div-mul-add, mod-mul-add, mul-le, pow_below}
 use Rattle.std.proofs.lemmas.List.{get_or-set_same, get_or-set_other, get_or_append_left, get_or-replicate, length-replicate}
 use Rattle.std.proofs.lemmas.List.{get_or_read}
 use Rattle.std.proofs.Math.Seq.{get_or-append_seam}
@@ -12,7 +12,7 @@ use Rattle.cell_sets.proofs.MarkLemmas.{HasCell-add}
 use Rattle.std.proofs.lemmas.List.{length-set}
 use Rattle.net_plan.specs.declared.plan.Plan.{Plan}
 use Rattle.net_plan.specs.Plan.{boxes_of}
-use Rattle.box_moves.specs.Moves.{masks_at, moves_of, move_number, marks_at, IsKept, IsSized, IsMove, HasMove, cells_of, AreCleared}
+use Rattle.box_moves.specs.Moves.{masks_at, moves_of, moves_over, move_number, marks_at, IsKept, IsSized, IsMove, HasMove, cells_of, AreCleared}
 
 -- at most twelve queries have at most 4,096 masks
 pub few_masks : (n : ℕ) → n ≤ 12 → 2 ^ n ≤ 4096
@@ -165,7 +165,16 @@ blank_empty plan sets blank box packet mask other has =
 -- the set of a box that is kept has a cell for each of its moves
 pub kept_cells : (plan : Plan) (box : ℕ) → IsKept plan box → cells_of plan box ≡ moves_of plan box
 kept_cells plan box kept =
-    ap (λ b. if b then (moves_of plan box) else 0) (le-leb (moves_of plan box) (2 ^ 25) kept)
+    ap (λ b. if b then (moves_of plan box) else 0) (le-leb (moves_over plan box) (2 ^ 31) kept)
+
+-- and few of them
+pub kept_few : (plan : Plan) (box : ℕ) → box < boxes_of plan → IsKept plan box → moves_of plan box ≤ 2 ^ 31
+kept_few plan box less kept =
+    let some : 1 ≤ boxes_of plan = omega (arith, less) in
+    let all : moves_of plan box * 1 ≤ moves_of plan box * boxes_of plan =
+    mul-le (moves_of plan box) 1 (moves_of plan box) (boxes_of plan) (omega arith) some in
+    let few : moves_of plan box * boxes_of plan ≤ 2 ^ 31 = kept in
+    omega (arith, all, few)
 
 -- what a table has where the set of a box got the number of a move
 pub noted_by : (plan : Plan) (sets : List (List Bool)) (box packet mask other number : ℕ) (old marks : List Bool) →

@@ -16,9 +16,13 @@ moves_of plan box = packets_of plan * masks_at plan box * masks_at plan box
 abbrev pub move_number : ℕ → ℕ → ℕ → ℕ → ℕ
 move_number masks packet mask other = (packet * masks + mask) * masks + other
 
--- a box is kept that has few moves
+-- how many there were if each box had so many
+abbrev pub moves_over : Plan → ℕ → ℕ
+moves_over plan box = moves_of plan box * boxes_of plan
+
+-- a box is kept where these are few
 abbrev pub IsKept : Plan → ℕ → Type 0
-IsKept plan box = moves_of plan box ≤ 2 ^ 25
+IsKept plan box = moves_over plan box ≤ 2 ^ 31
 
 -- the marks of the set of a box
 abbrev pub marks_at : List (List Bool) → ℕ → List Bool
@@ -26,7 +30,7 @@ marks_at sets box = slice_index_or sets box []
 
 -- how many cells the set of a box has: one for each move where the box is kept, and none elsewhere
 abbrev pub cells_of : Plan → ℕ → ℕ
-cells_of plan box = if nat_le (moves_of plan box) (2 ^ 25) then moves_of plan box else 0
+cells_of plan box = if nat_le (moves_over plan box) (2 ^ 31) then moves_of plan box else 0
 
 -- there is one set a box, with its cells
 pub record IsSized (plan : Plan) (sets : List (List Bool)) : Type 0 where
