@@ -15,7 +15,7 @@ use Rattle.net_plan.specs.Sound.{IsSound}
 use Rattle.net_plan.proofs.CellLemmas.{cell_once}
 use Rattle.net_plan.proofs.Rising.{head_contained}
 use Rattle.packet_state.specs.Follows.{Follows}
-use Rattle.box_moves.specs.Moves.{masks_at, moves_of, IsKept, IsSized, HasMove, HasNoMoveFrom}
+use Rattle.box_moves.specs.Moves.{masks_at, moves_over, IsKept, IsSized, HasMove, HasNoMoveFrom}
 use Rattle.abstract_step.specs.Step.{Result}
 use Rattle.packet_domain.specs.declared.inlet.Inlet.{Inlet}
 use Rattle.move_table.specs.Offered.{Offered, Is, IsDone}
@@ -415,8 +415,8 @@ module _ (plan : Plan) (before old mid new : Progress) (box packet mask : ℕ) (
       Contains (found_in old) (cell_of plan fact)
       ⊎ (AsState plan old.done box packet mask fact ⊎ ChangesAs plan moves old.done box packet mask fact)
   reason fact in' changed =
-      elim (cases_lt (2 ^ 25) (moves_of plan box)) [
-        | inl more ↦ inr (inr (inr ((λ kept. let few : moves_of plan box ≤ 2 ^ 25 = kept in omega (arith, few, more)), changed)))
+      elim (cases_lt (2 ^ 31) (moves_over plan box)) [
+        | inl more ↦ inr (inr (inr ((λ kept. let few : moves_over plan box ≤ 2 ^ 31 = kept in omega (arith, few, more)), changed)))
         | inr kept ↦ let is = changed_state fact changed in
             subst (λ f. Contains (found_in old) (cell_of plan f)
             ⊎ (AsState plan old.done box packet mask f ⊎ ChangesAs plan moves old.done box packet mask f)) (sym is.1)
@@ -429,9 +429,9 @@ module _ (plan : Plan) (before old mid new : Progress) (box packet mask : ℕ) (
 
   moved_from : (move : Move) → Has plan moves move →
       ChangesAs plan moves old.done move.box move.packet move.mask (after_of move)
-  moved_from move has = elim (cases_lt (2 ^ 25) (moves_of plan move.box)) [
+  moved_from move has = elim (cases_lt (2 ^ 31) (moves_over plan move.box)) [
     | inl more ↦ inr (
-      (λ kept. let few : moves_of plan move.box ≤ 2 ^ 25 = kept in omega (arith, few, more)),
+      (λ kept. let few : moves_over plan move.box ≤ 2 ^ 31 = kept in omega (arith, few, more)),
       still_changed plan before old Given inside takes move.box move.packet move.mask (after_of move)
           (tracks.sound move has),
     )

@@ -43,6 +43,7 @@ fn move_on<S: CellSet>(
     requires mask { IsMaskOf net.now b w }
     ensures { Offered net.now (IsMoved net.now table.now.moves b q w) work.old work.new }
 {
+    let _queries = net.queries(b);
     let mut from = 0;
     while let Some(other) = table.next(b, q, w, from) {
         offer(net, Fact::State(b, q, other), work);
