@@ -3,8 +3,9 @@
 
 measure.py [PROGRAM]   the program is crates/amdl_cli/out/amdl_cli where none is named; 'rt ci' builds it.
 
-Each run has 300 seconds, and 4 GiB of address space. Where valgrind is there and the word 'count' stands behind the
-program, the instructions of the small ones are counted too.
+Each run has 300 seconds, and 4 GiB of address space. Behind the program two words may stand. With 'count', and where
+valgrind is there, the instructions are counted too, of runs of at most 6 seconds. With 'clingo' the same networks are
+given to clingo (Debian's package gringo) as datalog.py writes them, and its number of facts is compared.
 """
 import os
 import re
@@ -16,17 +17,18 @@ import time
 
 HERE = os.path.dirname(os.path.abspath(__file__))
 TOP = os.path.dirname(os.path.dirname(HERE))
-RUNS = [("sample", 16), ("sample", 31), ("chain", 60), ("fabric", 5), ("wide", 256), ("double", 256), ("queries", 6),
-        ("queries", 8), ("queries", 12), ("constants", 64)]
+RUNS = [("sample", 16), ("sample", 31), ("fabric", 5), ("fabric", 7), ("wide", 256), ("double", 256), ("chain", 60),
+        ("queries", 6), ("queries", 8), ("queries", 12), ("constants", 8), ("constants", 16), ("constants", 64)]
+LONGEST_COUNTED = 6
 
 
 def limit():
     resource.setrlimit(resource.RLIMIT_AS, (4 << 30, 4 << 30))
 
 
-def run(program, path):
+def run(words):
     begun = time.time()
-    child = subprocess.Popen([program, "analyse", path], stdout=subprocess.PIPE, preexec_fn=limit)
+    child = subprocess.Popen(words, stdout=subprocess.PIPE, stderr=subprocess.DEVNULL, preexec_fn=limit)
     try:
         text, _ = child.communicate(timeout=300)
     except subprocess.TimeoutExpired:
@@ -34,55 +36,80 @@ def run(program, path):
         child.wait()
         return None
     usage = resource.getrusage(resource.RUSAGE_CHILDREN)
-    return text.decode().splitlines(), time.time() - begun, usage.ru_maxrss
+    return text.decode(), time.time() - begun, usage.ru_maxrss // 1024
 
 
-def measured(program, path):
+def measured(words):
     """One run in a process of its own, so that the peak of memory is its own."""
     read, write = os.pipe()
     child = os.fork()
     if child == 0:
-        answer = run(program, path)
-        os.write(write, repr(answer).encode())
+        os.close(read)
+        with os.fdopen(write, "w") as pipe:
+            pipe.write(repr(run(words)))
         os._exit(0)
     os.close(write)
-    with os.fdopen(read, "rb") as pipe:
-        answer = eval(pipe.read().decode())
+    with os.fdopen(read) as pipe:
+        answer = eval(pipe.read())
     os.waitpid(child, 0)
     return answer
 
 
-def instructions(program, path):
-    talk = subprocess.run(["valgrind", "--tool=callgrind", "--callgrind-out-file=/dev/null", program, "analyse", path],
+def instructions(words):
+    talk = subprocess.run(["valgrind", "--tool=callgrind", "--callgrind-out-file=/dev/null"] + words,
                           capture_output=True, text=True).stderr
     found = re.search(r"Collected : (\d+)", talk)
-    return int(found.group(1)) if found else None
+    return "%d" % round(int(found.group(1)) / 1e6) if found else ""
+
+
+def written(script, family, size, folder):
+    path = os.path.join(folder, "%s%d.%s" % (family, size, script))
+    with open(path, "w") as file:
+        subprocess.run([sys.executable, os.path.join(HERE, script + ".py"), family, str(size)], stdout=file, check=True)
+    return path
+
+
+def ours(program, path, counted):
+    """The cells of the table for the program, and the number of facts that it counts."""
+    words = [program, "analyse", path]
+    answer = measured(words)
+    if answer is None:
+        return "| over 300 | |" + (" |" if counted else ""), None
+    text, seconds, mebibytes = answer
+    facts = re.search(r"out (\d+) state (\d+) abort (\d+)", text)
+    cells = "| %.2f | %d |" % (seconds, mebibytes)
+    if counted:
+        cells += " %s |" % (instructions(words) if seconds <= LONGEST_COUNTED else "")
+    return cells, sum(map(int, facts.groups())) if facts else None
+
+
+def clingo(path, facts):
+    """The cells for clingo, with a word where it finds another number of facts."""
+    answer = measured(["clingo", "--outf=0", "-V1", path])
+    if answer is None or "out" not in answer[0]:
+        return " over 300 s or 4 GiB | |"
+    text, seconds, mebibytes = answer
+    found = sum(word.startswith(("out(", "state(")) for word in text.split())
+    return " %.2f | %d |%s" % (seconds, mebibytes, "" if facts in (None, found) else " but %d facts" % found)
 
 
 def main():
     words = sys.argv[1:]
-    counted = "count" in words
-    words = [word for word in words if word != "count"]
+    counted, compared = "count" in words, "clingo" in words
+    words = [word for word in words if word not in ("count", "clingo")]
     program = words[0] if words else os.path.join(TOP, "crates/amdl_cli/out/amdl_cli")
     if not os.access(program, os.X_OK):
         sys.exit("no program at %s: 'rt ci' builds it" % program)
-    print("| network | facts | verdict | seconds | MiB |" + (" instructions |" if counted else ""))
-    print("| --- | --- | --- | --- | --- |" + (" --- |" if counted else ""))
-    for family, size in RUNS:
-        with tempfile.NamedTemporaryFile("w", suffix=".amdl") as network:
-            subprocess.run([sys.executable, os.path.join(HERE, "networks.py"), family, str(size)],
-                           stdout=network, check=True)
-            network.flush()
-            answer = measured(program, network.name)
-            if answer is None:
-                print("| %s %d | | over 300 s | | |" % (family, size))
-                continue
-            lines, seconds, kilobytes = answer
-            line = "| %s %d | %s | %s | %.2f | %d |" % (
-                family, size, lines[1][6:] if len(lines) > 1 else "", (lines + ["", "", ""])[2] or lines[0], seconds,
-                kilobytes // 1024)
-            if counted and seconds < 1:
-                line += " %s |" % instructions(program, network.name)
+    heads = ["network", "facts", "seconds", "MiB"] + ["million instructions"] * counted
+    heads += ["clingo, seconds", "clingo, MiB"] * compared
+    print("| " + " | ".join(heads) + " |")
+    print("|" + " --- |" * len(heads))
+    with tempfile.TemporaryDirectory() as folder:
+        for family, size in RUNS:
+            cells, facts = ours(program, written("networks", family, size, folder), counted)
+            line = "| %s %d | %s " % (family, size, facts or "") + cells
+            if compared:
+                line += clingo(written("datalog", family, size, folder), facts)
             print(line, flush=True)
 
 
