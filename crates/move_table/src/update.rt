@@ -1,5 +1,5 @@
 // The moves of the writes of one result, at all packets that read what is written.
-ghost use Rattle.std.specs.Prelude.{◌≡◌, ◌<◌, length};
+ghost use Rattle.std.specs.Prelude.{◌≡◌, ◌<◌, ◌⊎◌, length};
 ghost use Rattle.net_plan.specs.Plan.{packets_of, boxes_of};
 ghost use Rattle.net_plan.specs.Cells.{cells_of};
 ghost use Rattle.box_masks.specs.Writes.{IsMaskOf};
@@ -75,18 +75,33 @@ fn passed_over(
     ensures { IsExempt net.now moves.now b update.now result }
 {
     let mut best = None;
-    let mut most = 0;
     for write in update {
-        let many = tables.readers(b, write.entry).len();
-        if many > most && !keeps(tables.tuples(b, p), v, update, write.entry) {
+        if !keeps(tables.tuples(b, p), v, update, write.entry) {
             let one = exempt_of(net, tables, b, update, write.entry, moves, marks);
-            if one.is_some() {
-                best = one;
-                most = many;
-            }
+            best = more_read(tables, b, best, one);
         }
     }
     best
+}
+
+// The one of two tuples that has more readers, or the one that there is. It looks for readers where there are both.
+fn more_read(
+    tables: &QueryTables<'_>,
+    b: u32,
+    one: Option<Entry>,
+    other: Option<Entry>,
+) -> Option<Entry>
+    requires { b < boxes_of tables.now }
+    ensures { (result ≡ one) ⊎ (result ≡ other) }
+{
+    let (Some(first), Some(second)) = (one, other) else {
+        return one.or(other);
+    };
+    if tables.readers(b, first).len() < tables.readers(b, second).len() {
+        other
+    } else {
+        one
+    }
 }
 
 // The tuple, where all moves of what the writes leave of it are marked.
