@@ -1,5 +1,6 @@
 -- Cells that are done in a row of cells, and the facts of the row.
-use Rattle.std.proofs.Common.{◌≡◌, ℕ, ◌+◌, ◌-◌, ◌*◌, ◌<◌, ◌≤◌, List, Option, Some, None, MatchOption, sym, ap, subst, ◌∙◌, arith}
+use Rattle.std.proofs.Common.{◌≡◌, ℕ, ◌+◌, ◌-◌, ◌*◌, ◌<◌, ◌≤◌, List, Option, Some, None, MatchOption, sym, ap, subst, ◌∙◌, arith, inl, inr}
+use Rattle.std.proofs.lemmas.Bool.{cases_lt}
 use Rattle.std.specs.List.{Contains}
 use Rattle.fix_engine.specs.Progress.{HasNoneOf}
 use Rattle.net_plan.specs.declared.plan.Plan.{Plan}
@@ -29,6 +30,16 @@ module _ (done : List ℕ) (first from count : ℕ) where
       HasNone (IsDoneIn done first) from count
   none_in_row cell none past k above below there =
       none (first + k) (omega (arith, above)) (omega (arith, past, below)) there
+
+-- a number of which it isn't so, behind others of which it isn't
+pub none_next : (P : ℕ → Type 0) (from k : ℕ) → HasNone P from k → (P k → ⊥) → HasNone P from (k + 1)
+none_next P from k none here other above below there = elim (cases_lt other k) [
+  | inl before ↦ none other above before there
+  | inr behind ↦ let same : other ≡ k = omega (arith, below, behind) in here (subst P same there)
+]
+
+pub none_so_far : (P : ℕ → Type 0) (from k count : ℕ) → HasNone P from k → count ≤ k → HasNone P from count
+none_so_far P from k count none past other above below = none other above (omega (arith, past, below))
 
 -- the facts of a row
 module _ (plan : Plan) (done : List ℕ) (place : ℕ → Fact) (first count : ℕ)

@@ -10,7 +10,8 @@ use cell_sets::CellSet;
 use fix_engine::Work;
 use net_plan::{Fact, Network};
 
-// The least number, from one on and below another, whose cell is done, where the cells begin at `first`.
+// The least number, from one on and below another, whose cell is done, where the cells begin at `first`. It passes over
+// many cells in one step, but may look far behind the last of these.
 fn next_in<S: CellSet>(work: &Work<S>, first: u32, from: u32, count: u32) -> Option<u32>
     requires cells { first + count ≤ work.now.cells }
     requires from { from ≤ count }
@@ -24,7 +25,24 @@ fn next_in<S: CellSet>(work: &Work<S>, first: u32, from: u32, count: u32) -> Opt
     }
 }
 
-/// The least mask from one on with which a box answers at a packet, by a fact that is done.
+// The same for a few cells, one by one.
+fn next_in_few<S: CellSet>(work: &Work<S>, first: u32, from: u32, count: u32) -> Option<u32>
+    requires cells { first + count ≤ work.now.cells }
+    requires from { from ≤ count }
+    requires small { work.now.cells ≤ 4194304 }
+    ensures { MatchOption result (HasNone (IsDoneIn work.now.done first) from count)
+        (λ k. (from ≤ k) × (k < count) × IsDoneIn work.now.done first k × HasNone (IsDoneIn work.now.done first) from k) }
+{
+    for k in from..count {
+        if work.is_done(first + k) {
+            return Some(k);
+        }
+    }
+    None
+}
+
+/// The least mask from one on with which a box answers at a packet, by a fact that is done. Linear in the masks that are
+/// passed over.
 pub fn next_mask<S: CellSet>(
     net: &Network,
     work: &Work<S>,
@@ -43,7 +61,7 @@ pub fn next_mask<S: CellSet>(
     net.sound();
     let first = net.cell_of(Fact::State(b, p, 0));
     let masks = 2u32.pow(net.queries(b).len() as u32);
-    match next_in(work, first, from, masks) {
+    match next_in_few(work, first, from, masks) {
         Some(found) => Some(found as u16),
         None => None,
     }

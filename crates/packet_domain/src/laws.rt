@@ -1,5 +1,5 @@
-//! Laws of the abstract step, each the contract of a function that does nothing.
-ghost use Rattle.packet_domain.specs.Laws.{StepIsExact};
+//! Laws of the abstract step and of transitions, each the contract of a function that does nothing.
+ghost use Rattle.packet_domain.specs.Laws.{StepIsExact, TransitionsAreSteps};
 
 use box_contents::{held_with, held_without};
 use net_plan::laws::partner_is_unique;
@@ -13,3 +13,9 @@ pub fn step_is_exact()
     held_with();
     held_without();
 }
+
+/// The transitions of the domain are exactly the steps of runs, over unordered and over ordered channels, and the bad ones
+/// are those with a bad event. So what is said of all transitions is said of each step of each run.
+pub fn transitions_are_steps()
+    ensures { TransitionsAreSteps }
+{}
