@@ -16,7 +16,8 @@ use Rattle.box_masks.specs.Writes.{AreShown}
 use Rattle.packet_state.specs.Answers.{answers}
 use Rattle.box_moves.specs.Moves.{IsSized, IsMove, HasMove}
 use Rattle.move_table.specs.Offered.{Offered, Is, IsDone}
-use Rattle.move_table.specs.Moves.{Move, IsOne, before_of, after_of, Adds, Moved, Noted, Patches, IsPatch}
+use Rattle.move_table.specs.Moves.{Move, IsOne, before_of, after_of, Has, Adds, Moved, Noted, AreFollowed, Patches}
+use Rattle.move_table.specs.Moves.{IsPatch}
 use Rattle.move_table.proofs.OfferedLemmas.{offered_none, offered_as, offered_both}
 use Rattle.move_table.proofs.AddLemmas.{adds_none, adds_as, adds_both}
 
@@ -57,6 +58,24 @@ module _ (plan : Plan) where
           (subst (λ (m : ℕ). Contains (found_in work) (cell_of plan (State moved.0.box moved.0.packet m)))
           (same moved.0 moved.3)
           (Contains-append_left work.done work.todo (cell_of plan (before_of moved.0)) moved.2.1));
+      only = λ cell found. inl found;
+    };
+  }
+
+  -- moves that were noted and are followed make nothing that isn't found
+  pub noted_known : (P : Move → Type 0) (moves : List (List Bool)) (work : Progress) → IsSized plan moves →
+      AreFollowed plan moves work → ((move : Move) → P move → Has plan moves move) → Noted plan P moves moves work work
+  noted_known P moves work sized followed known = record {
+    adds = record {
+      sized = sized;
+      stays = λ move has. has;
+      all = λ move kept is holds. inl (known move holds);
+      only = λ move has. inl has;
+    };
+    offered = record {
+      grows = Grows-none work;
+      all = λ fact in' moved. subst (λ (f : Fact). Contains (found_in work) (cell_of plan f)) (sym moved.4)
+          (followed moved.0 (known moved.0 moved.3) moved.2);
       only = λ cell found. inl found;
     };
   }
@@ -202,6 +221,25 @@ module _ (plan : Plan) (box packet mask : ℕ) where
       subst (λ (p : ℕ). IsPatch plan box writes p w move.other) holds.0.1
       (subst (λ (m : ℕ). IsPatch plan box writes move.packet m move.other) holds.1 holds.0.0.patched) in
       holds.1 ∙ sym (patch shown.0 shown.3) ∙ now shown.0 shown.3)
+
+  -- where the one move was noted and is followed, nothing is left to do
+  pub patches_known : (writes : List Write) (q w after : ℕ) → IsPatch plan box writes q w after →
+      (moves : List (List Bool)) (work : Progress) → IsSized plan moves → AreFollowed plan moves work →
+      HasMove plan moves box q w after →
+      Noted plan (λ move. (Patches plan box packet mask writes move × (move.packet ≡ q)) × (move.mask ≡ w))
+      moves moves work work
+  patches_known writes q w after patch moves work sized followed has =
+      noted_known plan (λ move. (Patches plan box packet mask writes move × (move.packet ≡ q)) × (move.mask ≡ w))
+      moves work sized followed (λ move holds.
+      let shown : AreShown plan box packet mask q w =
+      subst (λ (p : ℕ). AreShown plan box packet mask p w) holds.0.1
+      (subst (λ (m : ℕ). AreShown plan box packet mask move.packet m) holds.1 holds.0.0.shown) in
+      let now : IsPatch plan box writes q w move.other =
+      subst (λ (p : ℕ). IsPatch plan box writes p w move.other) holds.0.1
+      (subst (λ (m : ℕ). IsPatch plan box writes move.packet m move.other) holds.1 holds.0.0.patched) in
+      subst (Has plan moves)
+      (sym (same_numbers move box q w after holds.0.0.boxed holds.0.1 holds.1
+      (sym (now shown.0 shown.3) ∙ patch shown.0 shown.3))) has)
 
   pub patches_not : (writes : List Write) (q w : ℕ) → (AreShown plan box packet mask q w → ⊥) → (moves : List (List Bool))
       (work : Progress) → IsSized plan moves →

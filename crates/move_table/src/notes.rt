@@ -5,7 +5,7 @@ ghost use Rattle.net_plan.specs.Plan.{packets_of, boxes_of};
 ghost use Rattle.net_plan.specs.Cells.{cells_of};
 ghost use Rattle.box_masks.specs.Writes.{IsMaskOf};
 ghost use Rattle.box_moves.specs.Moves.{IsKept, IsSized, IsMove};
-ghost use Rattle.move_table.specs.Moves.{Adds, Noted, Patches};
+ghost use Rattle.move_table.specs.Moves.{Adds, AreFollowed, Noted, Patches};
 
 use crate::marks::masks_of;
 use crate::offers::offer;
@@ -52,7 +52,8 @@ fn note<S: CellSet>(
     }
 }
 
-// Notes what writes make of answers, where some contents answer so and with `v` at `p`.
+// Notes what writes make of answers, where some contents answer so and with `v` at `p`. What was noted before needs no
+// look at the contents, since it is followed.
 fn note_mask<S: CellSet>(
     net: &Network,
     tables: &QueryTables<'_>,
@@ -68,6 +69,7 @@ fn note_mask<S: CellSet>(
     requires tables { tables.now ≡ net.now }
     requires cells { work.old.cells ≡ cells_of net.now }
     requires sized { IsSized net.now moves.old }
+    requires followed { AreFollowed net.now moves.old work.old }
     requires boxed { b < boxes_of net.now }
     requires kept { IsKept net.now b }
     requires packet { p < packets_of net.now }
@@ -80,6 +82,9 @@ fn note_mask<S: CellSet>(
 {
     let after = patch(net, tables, b, update, q, w);
     if after == w {
+        return;
+    }
+    if moves.has(net, b, q, w, after) {
         return;
     }
     if agree(net, tables, b, p, v, q, w) {
@@ -102,6 +107,7 @@ pub fn note_packet<S: CellSet>(
     requires tables { tables.now ≡ net.now }
     requires cells { work.old.cells ≡ cells_of net.now }
     requires sized { IsSized net.now moves.old }
+    requires followed { AreFollowed net.now moves.old work.old }
     requires boxed { b < boxes_of net.now }
     requires kept { IsKept net.now b }
     requires packet { p < packets_of net.now }

@@ -1,6 +1,6 @@
 use Rattle.std.proofs.Common.{subst}
 use Rattle.move_table.specs.Moves.{IsPatch}
-use Rattle.move_table.proofs.NoteLemmas.{patches_one, patches_same}
+use Rattle.move_table.proofs.NoteLemmas.{patches_one, patches_same, patches_known}
 use Rattle.move_table.proofs.notes.note_mask.Goals as goal
 
 pub returns-then-agree : goal.returns-then-agree
@@ -15,3 +15,9 @@ returns-then-after-w g c =
     (subst (IsPatch c.args.net.now c.args.b c.args.update.now c.args.q c.args.w) c.if-after-w.true
     c.patch-after.ensures.exact)
     c.args.moves.now c.args.work.now c.requires.sized
+
+pub returns-then-has : goal.returns-then-has
+returns-then-has g c =
+    patches_known c.args.net.now c.args.b c.args.p c.args.v c.args.update.now c.args.q c.args.w c.patch-after.result
+    c.patch-after.ensures.exact c.args.moves.now c.args.work.now c.requires.sized c.requires.followed
+    (c.has.ensures.0 c.if-has.true)

@@ -1,8 +1,17 @@
 use Rattle.std.proofs.Common.{◌≡◌, ℕ, ◌<◌, ◌≤◌, subst, arith}
 use Rattle.box_moves.specs.Moves.{masks_at}
 use Rattle.move_table.specs.Moves.{Move, Patches}
-use Rattle.move_table.proofs.NoteLemmas.{first_none, first_turn, first_all}
+use Rattle.move_table.proofs.NoteLemmas.{FirstMoves, first_none, first_turn, first_all}
+use Rattle.move_table.proofs.WithinLemmas.{followed_noted}
 use Rattle.move_table.proofs.notes.note_packet.Goals as goal
+
+pub note_mask-requires-clause-followed : goal.note_mask-requires-clause-followed
+note_mask-requires-clause-followed g c =
+    followed_noted c.args.net.now
+    (FirstMoves c.args.net.now
+    (λ (move : Move). Patches c.args.net.now c.args.b c.args.p c.args.v c.args.update.now move × (move.packet ≡ c.args.q))
+    (λ move. move.mask) c.loop-w.w) c.args.moves.now c.loop-w.moves c.args.work.now c.loop-w.work c.loop-w.invariant
+    c.requires.followed
 
 pub loop-w-init : goal.loop-w-init
 loop-w-init g c =
