@@ -78,7 +78,7 @@ one_is false true e = absurd (cc)
 one_is false false e = refl
 
 -- writes to other entries leave a bit
-unwritten_bit : (writes : List Write) (entry : Entry) (bit : Bool) → is_written writes entry ≡ false →
+pub unwritten_bit : (writes : List Write) (entry : Entry) (bit : Bool) → is_written writes entry ≡ false →
     bit_after bit entry writes ≡ bit
 unwritten_bit [] entry bit e = refl
 unwritten_bit (write ∷ writes) entry bit e =
@@ -86,7 +86,7 @@ unwritten_bit (write ∷ writes) entry bit e =
     ap (λ b. bit_after (cond b write.add bit) entry writes) parts.0 ∙ unwritten_bit writes entry bit parts.1
 
 -- and a write to the entry makes the bit from before mean nothing
-written_bit : (writes : List Write) (entry : Entry) (one two : Bool) → is_written writes entry ≡ true →
+pub written_bit : (writes : List Write) (entry : Entry) (one two : Bool) → is_written writes entry ≡ true →
     bit_after one entry writes ≡ bit_after two entry writes
 written_bit [] entry one two e = absurd (cc)
 written_bit (write ∷ writes) entry one two e =

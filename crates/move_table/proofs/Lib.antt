@@ -1,4 +1,5 @@
 pub mod AddLemmas
+mod EffectLemmas
 mod KeptLemmas
 mod MarkLemmas
 pub mod NoteLemmas

@@ -1,4 +1,5 @@
 pub mod Coded
+pub mod Effect
 pub mod Kept
 pub mod Laws
 pub mod Marks

@@ -2,6 +2,7 @@
 //! once, and what its moves make of answers that are done is offered.
 #![tactic(auto)]
 
+mod effect;
 mod kept;
 mod laws;
 mod marks;

@@ -1,18 +1,20 @@
 // Marks for writes of which all moves were noted.
-ghost use Rattle.std.specs.Prelude.{◌≡◌, ◌<◌, IsTrue, Some, slice_get};
+ghost use Rattle.std.specs.Prelude.{◌≡◌, ◌<◌, IsTrue, [], ◌∷◌, Some, slice_get};
 ghost use Rattle.net_plan.specs.Plan.{packets_of, boxes_of};
 ghost use Rattle.box_masks.specs.Writes.{IsMaskOf};
 ghost use Rattle.box_moves.specs.Moves.{IsKept, IsSized, masks_at};
 ghost use Rattle.query_tables.specs.Tables.{queries_of, tuples_in};
+ghost use Rattle.move_table.specs.Effect.{IsEffectOf};
 ghost use Rattle.move_table.specs.Marks.{AllNoted, AreMarks, IsNotedAt, IsNotedFrom, mark_of};
 
+use crate::effect::{Effect, effect_of, patched};
 use crate::spots::{Spot, spot_of};
 use box_contents::Entry;
 use box_masks::Write;
 use box_moves::Moves;
 use net_plan::Network;
 use query_tables::QueryTables;
-use query_tables::masks::{agree, patch};
+use query_tables::masks::agree;
 
 /// Whether a mark says that all moves of a write to the tuple were noted. Logarithmic in the packets times the queries.
 pub fn is_marked(
@@ -138,8 +140,11 @@ fn is_noted_at(
     requires sized { IsSized net.now moves.now }
     ensures { IsTrue result → IsNotedAt net.now moves.now b entry add q }
 {
+    net.sound();
+    let _queries = net.queries(b);
+    let effect = effect_of(&[], 0, &[Write { entry, add }], tables.tuples(b, q));
     for w in 0..masks_of(net, b) {
-        if !is_noted_from(net, tables, b, entry, add, q, w, moves) {
+        if !is_noted_from(net, tables, b, entry, add, q, w, &effect, moves) {
             return false;
         }
     }
@@ -155,9 +160,11 @@ fn is_noted_from(
     add: bool,
     q: u32,
     w: u16,
+    effect: &Effect,
     moves: &Moves,
 ) -> bool
     requires tables { tables.now ≡ net.now }
+    requires effect { IsEffectOf (record { entry = entry; add = add } ∷ []) (tuples_in net.now b q) effect.now }
     requires boxed { b < boxes_of net.now }
     requires kept { IsKept net.now b }
     requires packet { q < packets_of net.now }
@@ -165,7 +172,7 @@ fn is_noted_from(
     requires sized { IsSized net.now moves.now }
     ensures { IsTrue result → IsNotedFrom net.now moves.now b entry add q w }
 {
-    let after = patch(net, tables, b, &[Write { entry, add }], q, w);
+    let after = patched(net, b, &[Write { entry, add }], q, w, effect);
     if after == w {
         return true;
     }

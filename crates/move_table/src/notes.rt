@@ -5,8 +5,11 @@ ghost use Rattle.net_plan.specs.Plan.{packets_of, boxes_of};
 ghost use Rattle.net_plan.specs.Cells.{cells_of};
 ghost use Rattle.box_masks.specs.Writes.{IsMaskOf};
 ghost use Rattle.box_moves.specs.Moves.{IsKept, IsSized, IsMove};
+ghost use Rattle.query_tables.specs.Tables.{tuples_in};
+ghost use Rattle.move_table.specs.Effect.{effect_over};
 ghost use Rattle.move_table.specs.Moves.{Adds, AreFollowed, Noted, Patches};
 
+use crate::effect::{Effect, effect_of, has_known, patched};
 use crate::marks::masks_of;
 use crate::offers::offer;
 use box_masks::Write;
@@ -15,7 +18,7 @@ use cell_sets::CellSet;
 use fix_engine::Work;
 use net_plan::{Fact, Network};
 use query_tables::QueryTables;
-use query_tables::masks::{agree, patch};
+use query_tables::masks::agree;
 
 // Notes a move that changes the mask.
 fn add_move(net: &Network, b: u32, q: u32, w: u16, after: u16, moves: &mut Moves)
@@ -63,10 +66,12 @@ fn note_mask<S: CellSet>(
     update: &[Write],
     q: u32,
     w: u16,
+    effect: &Effect,
     moves: &mut Moves,
     work: &mut Work<S>,
 )
     requires tables { tables.now ≡ net.now }
+    requires effect { effect.now ≡ effect_over (tuples_in net.now b p) v update.now (tuples_in net.now b q) }
     requires cells { work.old.cells ≡ cells_of net.now }
     requires sized { IsSized net.now moves.old }
     requires followed { AreFollowed net.now moves.old work.old }
@@ -80,7 +85,12 @@ fn note_mask<S: CellSet>(
         (λ move. (Patches net.now b p v update.now move × (move.packet ≡ q)) × (move.mask ≡ w))
         moves.old moves.new work.old work.new }
 {
-    let after = patch(net, tables, b, update, q, w);
+    net.sound();
+    let _queries = net.queries(b);
+    if !has_known(effect, w) {
+        return;
+    }
+    let after = patched(net, b, update, q, w, effect);
     if after == w {
         return;
     }
@@ -116,7 +126,10 @@ pub fn note_packet<S: CellSet>(
     ensures { Noted net.now (λ move. Patches net.now b p v update.now move × (move.packet ≡ q)) moves.old moves.new
         work.old work.new }
 {
+    net.sound();
+    let _queries = net.queries(b);
+    let effect = effect_of(tables.tuples(b, p), v, update, tables.tuples(b, q));
     for w in 0..masks_of(net, b) {
-        note_mask(net, tables, b, p, v, update, q, w, moves, work);
+        note_mask(net, tables, b, p, v, update, q, w, &effect, moves, work);
     }
 }

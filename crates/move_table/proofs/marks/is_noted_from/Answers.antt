@@ -3,12 +3,12 @@ use Rattle.box_moves.specs.Moves.{HasMove}
 use Rattle.move_table.proofs.marks.is_noted_from.Goals as goal
 
 pub returns-then-after-w : goal.returns-then-after-w
-returns-then-after-w c holds contents are e = inr (sym (c.patch-after.ensures.exact contents e ∙ c.if-after-w.true))
+returns-then-after-w c holds contents are e = inr (sym (c.patched-after.ensures.exact contents e ∙ c.if-after-w.true))
 
 pub returns-then-has : goal.returns-then-has
 returns-then-has c holds contents are e =
     inl (subst (λ (m : ℕ). HasMove c.args.net.now c.args.moves.now c.args.b c.args.q c.args.w m)
-    (sym (c.patch-after.ensures.exact contents e)) (c.has.ensures.0 c.if-has.true))
+    (sym (c.patched-after.ensures.exact contents e)) (c.has.ensures.0 c.if-has.true))
 
 not_both : {P : Type 0} (b : Bool) → not b ≡ true → b ≡ true → P
 not_both true one two = absurd (cc)
