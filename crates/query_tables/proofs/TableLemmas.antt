@@ -1,6 +1,6 @@
 -- Which packets read a tuple, the readers in the tables of a box, and the places of tuples.
 use Rattle.std.proofs.Common.{◌≡◌, ℕ, ◌+◌, ◌*◌, ◌^◌, ◌<◌, ◌≤◌, List, [], length, take, drop}
-use Rattle.std.proofs.Common.{get_or, nat_lt, refl, sym, ap, subst, ◌∙◌, inl, inr, arith, cond, suc}
+use Rattle.std.proofs.Common.{get_or, nat_lt, refl, sym, ap, subst, ◌∙◌, inl, inr, arith, cond, suc, Option, Some, None, MatchOption}
 use Rattle.std.specs.List.{Contains, count_by, range_with_len}
 use Rattle.std.proofs.lemmas.Bool.{cases_lt, lt-ltb, le-ltb, ltb-true}
 use Rattle.std.proofs.lemmas.List.{length-map}
@@ -156,3 +156,16 @@ places_apart plan box one two small other_small read other_read same =
             (let e : key_of one ≡ key_of two = omega (arith, more, less) in e)
       ]
     ]
+
+-- a reader of the tuple among those of the table, or none
+pub reader_there : {X : Type 0} (now : X → Reader) (plan : Plan) (box : ℕ) (table : BoxTable) → IsTable plan box table →
+    (entry : Entry) (found : Option X) →
+    MatchOption found ((reader : Reader) → Contains table.readers.items reader → reader.entry ≡ entry → ⊥)
+    (λ x. Contains table.readers.items (now x) × (key_read (now x) ≡ key_of entry)) →
+    MatchOption found ((packet : ℕ) → packet < packets_of plan → Reads plan box packet entry → ⊥)
+    (λ x. IsReaderOf plan box entry (now x))
+reader_there now plan box table are entry None none =
+    λ packet less reads. none (reader_of packet entry) (table_has plan box table are packet entry less reads) refl
+reader_there now plan box table are entry (Some x) there =
+    let of = table_only plan box table are (now x) there.0 in
+    record { key_is = there.1; in_range = of.in_range; reads = of.reads }

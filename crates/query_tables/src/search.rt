@@ -1,5 +1,5 @@
 // Searches among readers that stand in the order of their tuples.
-ghost use Rattle.std.specs.Prelude.{◌≡◌, ℕ, ◌<◌, ◌≤◌, length, drop, nat_lt, slice_index_or};
+ghost use Rattle.std.specs.Prelude.{◌≡◌, ℕ, ◌<◌, ◌≤◌, length, drop, nat_lt, slice_index_or, MatchOption};
 ghost use Rattle.std.specs.List.{All, Contains, count_by};
 ghost use Rattle.std.specs.List.Sorted.{IsNonDecreasingBy};
 ghost use Rattle.query_tables.specs.declared.table.Reader.{Reader};
@@ -17,6 +17,21 @@ pub fn readers_of(readers: &[Reader], entry: Entry) -> &[Reader]
 {
     let rest = rest_from(readers, place_of(readers, entry));
     &rest[..place_behind(rest, entry)]
+}
+
+/// A reader of the tuple, if there is one. Logarithmic in the readers.
+pub fn reader_of(readers: &[Reader], entry: Entry) -> Option<&Reader>
+    requires { IsNonDecreasingBy key_read readers.now }
+    ensures { MatchOption result
+        ((reader : Reader) → Contains readers.now reader → reader.entry ≡ entry → ⊥)
+        (λ reader. Contains readers.now reader.now × (key_read reader.now ≡ key_of entry)) }
+{
+    let reader = readers.get(place_of(readers, entry))?;
+    if key_of(reader.entry) == key_of(entry) {
+        Some(reader)
+    } else {
+        None
+    }
 }
 
 /// How many readers come before those of the tuple. Logarithmic in the readers.

@@ -1,5 +1,5 @@
 // The tables of all boxes.
-ghost use Rattle.std.specs.Prelude.{◌≡◌, ℕ, ◌+◌, ◌<◌, ◌≤◌, length, take, drop, IfOk};
+ghost use Rattle.std.specs.Prelude.{◌≡◌, ℕ, ◌+◌, ◌<◌, ◌≤◌, length, take, drop, IfOk, MatchOption};
 ghost use Rattle.std.specs.List.{All, Contains};
 ghost use Rattle.net_plan.specs.Plan.{packets_of, boxes_of};
 ghost use Rattle.query_tables.specs.Tables.{Reads, IsReaderOf, reader_of, tuples_in, place_of};
@@ -78,6 +78,17 @@ impl<'a> QueryTables<'a> {
         ensures only { All (IsReaderOf self.now b entry) result.now }
     {
         search::readers_of(&self.boxes[b as usize].readers, entry)
+    }
+
+    /// A packet at which some query of the box has the tuple, as one of the readers, if there is one: the same one at each
+    /// call. Logarithmic in the readers of the box.
+    pub fn reader(&self, b: u32, entry: Entry) -> Option<&Reader>
+        requires { b < boxes_of self.now }
+        ensures { MatchOption result
+            ((packet : ℕ) → packet < packets_of self.now → Reads self.now b packet entry → ⊥)
+            (λ reader. IsReaderOf self.now b entry reader.now) }
+    {
+        search::reader_of(&self.boxes[b as usize].readers, entry)
     }
 
     /// How many readers of the box come before those of the tuple: for each tuple with a reader a number of its own.
