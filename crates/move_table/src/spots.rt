@@ -22,8 +22,7 @@ pub fn spot_of(net: &Network, tables: &QueryTables<'_>, b: u32, entry: Entry) ->
     ensures { IfSome result (λ spot. (spot.packet < packets_of net.now)
         × (slice_get (tuples_in net.now b spot.packet) spot.query ≡ Some entry)) }
 {
-    let (reader, _) = tables.readers(b, entry).split_first()?;
-    let packet = reader.packet;
+    let packet = tables.reader(b, entry)?.packet;
     let query = place_in(tables.tuples(b, packet), entry)?;
     Some(Spot { packet, query })
 }
