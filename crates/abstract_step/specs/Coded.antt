@@ -2,10 +2,9 @@
 use Rattle.std.specs.Prelude.{ℕ, Bool, List, refl}
 use Rattle.std.specs.Coded.{Coded, code_by, coded×, coded_ℕ, coded_bool, coded_list}
 use Rattle.box_contents.specs.declared.entry.Entry.{Entry}
-use Rattle.net_plan.specs.declared.plan.Plan.{Plan}
 use Rattle.box_masks.specs.declared.write.Write.{Write}
 use Rattle.abstract_step.specs.declared.put.Put.{Put}
-use Rattle.abstract_step.specs.Step.{Result, LastFire}
+use Rattle.abstract_step.specs.Step.{Result}
 
 abbrev pub put_code : Coded Put
 put_code =
@@ -27,8 +26,3 @@ result_code =
     code_by (Bool × (List Write × List Put)) (coded× coded_bool (coded× (coded_list write_code) (coded_list put_code)))
     (λ result. (result.aborted, (result.writes, result.puts)))
     (λ parts. record { aborted = parts.0; writes = parts.1.0; puts = parts.1.1 }) (λ _. refl)
-
-abbrev pub last_fire_code : Coded Plan → Coded LastFire
-last_fire_code plan_code =
-    code_by (Plan × List Result) (coded× plan_code (coded_list result_code)) (λ last. (last.plan, last.results))
-    (λ parts. record { plan = parts.0; results = parts.1 }) (λ _. refl)

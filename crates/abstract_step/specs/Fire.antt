@@ -23,11 +23,10 @@ pub record IsSpacious (found : Found) : Type 0 where
   pub writes : 1048576 ≤ vec_capacity found.writes
   pub puts : 1048576 ≤ vec_capacity found.puts
 
--- and for so many tuples
-pub record IsPrepared (tuples : ℕ) (trail : Trail) (found : Found) : Type 0 where
+-- and there is room for so many tuples
+pub record IsPrepared (tuples : ℕ) (trail : Trail) : Type 0 where
   pub tuples_room : 12 ≤ tuples
   pub lists : HasLists trail
-  pub spacious : IsSpacious found
 
 -- the laws of lower layers
 pub record AreLaws : Type 0 where

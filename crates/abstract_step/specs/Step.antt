@@ -21,11 +21,6 @@ pub record Result : Type 0 where
 abbrev pub result_at : List Result → ℕ → Result
 result_at results i = slice_index_or results i (record { aborted = false; writes = []; puts = [] })
 
--- a plan, and the results of the last packet that was fired in it
-pub record LastFire : Type 0 where
-  pub plan : Plan
-  pub results : List Result
-
 abbrev pub emission_of : Put → Emission
 emission_of put = record { port = put.port; packet = put.packet }
 

@@ -6,8 +6,9 @@ ghost use Rattle.packet_state.specs.Answers.{class_of_box};
 ghost use Rattle.box_masks.specs.Writes.{IsMaskOf};
 ghost use Rattle.abstract_step.specs.Found.{results_of};
 ghost use Rattle.abstract_step.specs.Fire.{IsSpacious, HasLists, AreLaws};
-ghost use Rattle.abstract_step.specs.Step.{AreResults, result_at};
+ghost use Rattle.abstract_step.specs.Step.{AreResults};
 
+use crate::fired::Fired;
 use crate::found::Found;
 use crate::masks::is_consistent;
 use crate::place::Place;
@@ -29,54 +30,50 @@ use std::sync::ledger::Ledger;
 use step_count::Steps;
 
 /// The paths through the handlers of a network, with room for the results of any one of them. Contracts see it as the
-/// plan of its network and the results of the last `fire`.
+/// plan of its network.
 #[derive(Drop)]
 pub struct Paths<'a> {
     net: &'a Network,
     // the tuples of the queries of the box at the packet
     tuples: Vec<Entry>,
     trail: Trail<'a>,
-    found: Found,
+    fired: Fired,
 }
 
 impl<'a> Model for Paths<'a> {
-    ghost use Rattle.abstract_step.specs.Step.{LastFire};
-    ghost use Rattle.abstract_step.specs.Coded.{last_fire_code};
-    ghost use Rattle.net_plan.specs.contracts.network.Network as network;
-
-    ghost Value = { LastFire };
-
-    ghost coded = { last_fire_code network.the_row.coded };
-
-    ghost use Rattle.abstract_step.specs.Found.{results_of};
     ghost use Rattle.std.specs.Vec.{vec_capacity};
+    ghost use Rattle.net_plan.specs.declared.plan.Plan.{Plan};
+    ghost use Rattle.net_plan.specs.contracts.network.Network as network;
     ghost use Rattle.abstract_step.specs.Fire.{IsPrepared};
 
-    ghost view = { λ paths. record { plan = paths.net.now; results = results_of paths.found } };
+    ghost Value = { Plan };
 
-    ghost invariant = { λ paths. IsPrepared (vec_capacity paths.tuples) paths.trail paths.found };
+    ghost coded = { network.the_row.coded };
+
+    ghost view = { λ paths. paths.net.now };
+
+    ghost invariant = { λ paths. IsPrepared (vec_capacity paths.tuples) paths.trail };
 }
 
 impl<'a> Paths<'a> {
-    /// The paths of a network, with no results yet. It reserves the memory for the results of any handler: those of
-    /// 1,024 paths of 1,024 statements each, about 21 MB, of which only what is used is touched.
+    ghost use Rattle.std.specs.Borrow.{sem};
+    ghost use Rattle.abstract_step.specs.Lent.{LeavesPlan};
+
+    /// The paths of a network. It reserves the memory for the results of any handler: those of 1,024 paths of 1,024
+    /// statements each, about 21 MB, of which only what is used is touched.
     pub fn new(alloc: Global, net: &'a Network) -> Result<Paths<'a>, NoMemory>
-        ensures { IfOk result (λ paths. (paths.plan ≡ net.now) × (paths.results ≡ [])) }
+        ensures { IfOk result (λ paths. paths ≡ net.now) }
     {
         Ok(Paths {
             net,
             tuples: reserved(alloc, 12)?,
             trail: no_trail(alloc)?,
-            found: Found {
-                endings: reserved(alloc, 1024)?,
-                writes: reserved(alloc, 1048576)?,
-                puts: reserved(alloc, 1048576)?,
-            },
+            fired: Fired::new(alloc)?,
         })
     }
 
     /// Fires the handler of a port of a box on packet `p`, from all contents that answer with the mask `v` at it. The
-    /// results stand in place of those from before. It takes no memory, and one step.
+    /// results stand until the next `fire`. It takes no memory, and one step.
     ///
     /// It takes time linear in the statements on the paths and in the guards that are tried, and quadratic in the
     /// queries of the box.
@@ -88,67 +85,26 @@ impl<'a> Paths<'a> {
         p: u32,
         v: u16,
         steps: &mut Steps<L>,
-    )
-        requires made { self.old.plan ≡ net.now }
+    ) -> &Fired
+        requires made { self.old ≡ net.now }
         requires boxed { b < boxes_of net.now }
         requires port { port < ports_of net.now (box_at net.now b) }
         requires packet { p < packets_of net.now }
         requires mask { IsMaskOf net.now b v }
-        ensures same { self.new.plan ≡ self.old.plan }
+        ensures* same { sem 𝓛 (LeavesPlan self.entry) }
         ensures ticks { steps.new ≡ steps.old + 1 }
-        ensures fired { AreResults net.now b port p v self.new.results }
+        ensures fired { AreResults net.now b port p v result.now }
     {
         let _net = net;
         steps.tick();
-        let net = self.net;
-        fire_now(
-            net,
-            b,
-            port,
-            p,
-            v,
-            &mut self.tuples,
-            &mut self.trail,
-            &mut self.found,
-        );
-    }
-
-    /// The number of results of the last `fire`, at most 1,024.
-    pub fn len(&self) -> usize
-        ensures { result ≡ length self.now.results }
-    {
-        self.found.endings.len()
-    }
-
-    /// Whether the result of a number aborts. Then it has no writes and no puts.
-    pub fn aborted(&self, i: usize) -> bool
-        requires { i < length self.now.results }
-        ensures { result ≡ (result_at self.now.results i).aborted }
-    {
-        self.found.endings[i].aborted
-    }
-
-    /// The writes of the result of a number, in their order.
-    pub fn update(&self, i: usize) -> &[Write]
-        requires { i < length self.now.results }
-        ensures { result.now ≡ (result_at self.now.results i).writes }
-    {
-        let ending = self.found.endings[i];
-        &self.found.writes.as_slice()[ending.writes_from..ending.writes_to]
-    }
-
-    /// What the result of a number puts out, in its order.
-    pub fn outs(&self, i: usize) -> &[Put]
-        requires { i < length self.now.results }
-        ensures { result.now ≡ (result_at self.now.results i).puts }
-    {
-        let ending = self.found.endings[i];
-        &self.found.puts.as_slice()[ending.puts_from..ending.puts_to]
+        self.fired
+            .refill(self.net, b, port, p, v, &mut self.tuples, &mut self.trail);
+        &self.fired
     }
 }
 
-// No items, with room for so many.
-fn reserved<T: Drop>(alloc: Global, room: usize) -> Result<Vec<T>, NoMemory>
+/// No items, with room for so many.
+pub(crate) fn reserved<T: Drop>(alloc: Global, room: usize) -> Result<Vec<T>, NoMemory>
     ensures { IfOk result (λ items. (items.items ≡ []) × (room ≤ vec_capacity items)) }
 {
     match Vec::with_capacity(alloc, room) {
@@ -207,7 +163,8 @@ fn read_tuples(net: &Network, b: u32, p: u32, tuples: &mut Vec<Entry>)
     }
 }
 
-fn fire_now<'a>(
+/// The results of a handler in place of those from before.
+pub(crate) fn fire_now<'a>(
     net: &'a Network,
     b: u32,
     port: u32,
