@@ -33,21 +33,21 @@ fn change_by<S: CellSet, L: Ledger>(
     work: &mut Work<S>,
     steps: &mut Steps<L>,
 )
-    requires made { paths.old.plan ≡ net.now }
+    requires made { paths.old ≡ net.now }
     requires cells { work.old.cells ≡ cells_of net.now }
     requires inlet { IsInlet net.now inlet }
     requires packet { p < packets_of net.now }
     requires mask { IsMaskOf net.now inlet.b v }
     requires other { q < packets_of net.now }
     requires other_mask { IsMaskOf net.now inlet.b w }
-    ensures same { paths.new.plan ≡ paths.old.plan }
+    ensures same { paths.new ≡ paths.old }
     ensures offered { Offered net.now
         (Follows net.now (Out inlet.end p ∷ State inlet.b p v ∷ State inlet.b q w ∷ [])) work.old work.new }
 {
     net.sound();
     step_is_exact();
-    paths.fire(net, inlet.b, inlet.port, p, v, steps);
-    change(net, paths, inlet.b, p, v, q, w, work);
+    let fired = paths.fire(net, inlet.b, inlet.port, p, v, steps);
+    change(net, fired, inlet.b, p, v, q, w, work);
 }
 
 fn change_by_any<S: CellSet, L: Ledger>(
@@ -60,13 +60,13 @@ fn change_by_any<S: CellSet, L: Ledger>(
     work: &mut Work<S>,
     steps: &mut Steps<L>,
 )
-    requires made { paths.old.plan ≡ net.now }
+    requires made { paths.old ≡ net.now }
     requires cells { work.old.cells ≡ cells_of net.now }
     requires inlet { IsInlet net.now inlet }
     requires packet { p < packets_of net.now }
     requires other { q < packets_of net.now }
     requires other_mask { IsMaskOf net.now inlet.b w }
-    ensures same { paths.new.plan ≡ paths.old.plan }
+    ensures same { paths.new ≡ paths.old }
     ensures offered { Offered net.now (AsChangedBy net.now work.old.done inlet.end p inlet.b q w) work.old work.new }
 {
     let mut at = 0;
@@ -85,12 +85,12 @@ fn change_from<S: CellSet, L: Ledger>(
     work: &mut Work<S>,
     steps: &mut Steps<L>,
 )
-    requires made { paths.old.plan ≡ net.now }
+    requires made { paths.old ≡ net.now }
     requires cells { work.old.cells ≡ cells_of net.now }
     requires inlet { IsInlet net.now inlet }
     requires other { q < packets_of net.now }
     requires other_mask { IsMaskOf net.now inlet.b w }
-    ensures same { paths.new.plan ≡ paths.old.plan }
+    ensures same { paths.new ≡ paths.old }
     ensures offered { Offered net.now (AsChangedFrom net.now work.old.done inlet.end inlet.b q w) work.old work.new }
 {
     net.sound();
@@ -111,13 +111,13 @@ fn change_at_port<S: CellSet, L: Ledger>(
     work: &mut Work<S>,
     steps: &mut Steps<L>,
 )
-    requires made { paths.old.plan ≡ net.now }
+    requires made { paths.old ≡ net.now }
     requires cells { work.old.cells ≡ cells_of net.now }
     requires boxed { b < boxes_of net.now }
     requires packet { q < packets_of net.now }
     requires mask { IsMaskOf net.now b w }
     requires port { port < ports_of net.now (box_at net.now b) }
-    ensures same { paths.new.plan ≡ paths.old.plan }
+    ensures same { paths.new ≡ paths.old }
     ensures offered { Offered net.now (AsChangedAt net.now work.old.done b q w port) work.old work.new }
 {
     net.sound();
@@ -137,12 +137,12 @@ pub fn change_state<S: CellSet, L: Ledger>(
     work: &mut Work<S>,
     steps: &mut Steps<L>,
 )
-    requires made { paths.old.plan ≡ net.now }
+    requires made { paths.old ≡ net.now }
     requires cells { work.old.cells ≡ cells_of net.now }
     requires boxed { b < boxes_of net.now }
     requires packet { q < packets_of net.now }
     requires mask { IsMaskOf net.now b w }
-    ensures same { paths.new.plan ≡ paths.old.plan }
+    ensures same { paths.new ≡ paths.old }
     ensures offered { Offered net.now (AsChanged net.now work.old.done b q w) work.old work.new }
 {
     for port in 0..net.ports(b) {

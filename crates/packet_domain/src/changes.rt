@@ -10,7 +10,7 @@ ghost use Rattle.move_table.specs.Offered.{Offered};
 ghost use Rattle.packet_domain.specs.Reasons.{IsAnswered, IsChange, SomeChanges, AgreeingChanges, ChangesAt, ChangesAll};
 
 use crate::done::next_mask;
-use abstract_step::Paths;
+use abstract_step::Fired;
 use box_masks::{agree, patch};
 use cell_sets::CellSet;
 use fix_engine::Work;
@@ -19,7 +19,7 @@ use net_plan::{Fact, Network};
 
 fn offer_change<S: CellSet>(
     net: &Network,
-    paths: &Paths<'_>,
+    fired: &Fired,
     b: u32,
     q: u32,
     w: u16,
@@ -31,18 +31,18 @@ fn offer_change<S: CellSet>(
     requires packet { q < packets_of net.now }
     requires mask { IsMaskOf net.now b w }
     requires answered { IsAnswered net.now b q w }
-    requires result { i < length paths.now.results }
-    ensures { Offered net.now (IsChange net.now b (result_at paths.now.results i) q w) work.old work.new }
+    requires result { i < length fired.now }
+    ensures { Offered net.now (IsChange net.now b (result_at fired.now i) q w) work.old work.new }
 {
-    if !paths.aborted(i) {
-        let after = patch(net, b, paths.update(i), q, w);
+    if !fired.aborted(i) {
+        let after = patch(net, b, fired.update(i), q, w);
         offer(net, Fact::State(b, q, after), work);
     }
 }
 
 fn offer_changes<S: CellSet>(
     net: &Network,
-    paths: &Paths<'_>,
+    fired: &Fired,
     b: u32,
     q: u32,
     w: u16,
@@ -53,17 +53,17 @@ fn offer_changes<S: CellSet>(
     requires packet { q < packets_of net.now }
     requires mask { IsMaskOf net.now b w }
     requires answered { IsAnswered net.now b q w }
-    ensures { Offered net.now (SomeChanges net.now b paths.now.results q w) work.old work.new }
+    ensures { Offered net.now (SomeChanges net.now b fired.now q w) work.old work.new }
 {
-    for i in 0..paths.len() {
-        offer_change(net, paths, b, q, w, i, work);
+    for i in 0..fired.len() {
+        offer_change(net, fired, b, q, w, i, work);
     }
 }
 
 /// Offers what the results make of the answers `w` at packet `q`, where some contents answer so and with `v` at `p`.
 pub fn change<S: CellSet>(
     net: &Network,
-    paths: &Paths<'_>,
+    fired: &Fired,
     b: u32,
     p: u32,
     v: u16,
@@ -77,16 +77,16 @@ pub fn change<S: CellSet>(
     requires mask { IsMaskOf net.now b v }
     requires other { q < packets_of net.now }
     requires other_mask { IsMaskOf net.now b w }
-    ensures { Offered net.now (AgreeingChanges net.now b p v paths.now.results q w) work.old work.new }
+    ensures { Offered net.now (AgreeingChanges net.now b p v fired.now q w) work.old work.new }
 {
     if agree(net, b, p, v, q, w) {
-        offer_changes(net, paths, b, q, w, work);
+        offer_changes(net, fired, b, q, w, work);
     }
 }
 
 fn change_at<S: CellSet>(
     net: &Network,
-    paths: &Paths<'_>,
+    fired: &Fired,
     b: u32,
     p: u32,
     v: u16,
@@ -98,11 +98,11 @@ fn change_at<S: CellSet>(
     requires packet { p < packets_of net.now }
     requires mask { IsMaskOf net.now b v }
     requires other { q < packets_of net.now }
-    ensures { Offered net.now (ChangesAt net.now work.old.done b p v paths.now.results q) work.old work.new }
+    ensures { Offered net.now (ChangesAt net.now work.old.done b p v fired.now q) work.old work.new }
 {
     let mut at = 0;
     while let Some(w) = next_mask(net, work, b, q, at) {
-        change(net, paths, b, p, v, q, w, work);
+        change(net, fired, b, p, v, q, w, work);
         at = w as u32 + 1;
     }
 }
@@ -110,7 +110,7 @@ fn change_at<S: CellSet>(
 /// Offers what the results make of all answers of the box that are done.
 pub fn change_all<S: CellSet>(
     net: &Network,
-    paths: &Paths<'_>,
+    fired: &Fired,
     b: u32,
     p: u32,
     v: u16,
@@ -120,9 +120,9 @@ pub fn change_all<S: CellSet>(
     requires boxed { b < boxes_of net.now }
     requires packet { p < packets_of net.now }
     requires mask { IsMaskOf net.now b v }
-    ensures { Offered net.now (ChangesAll net.now work.old.done b p v paths.now.results) work.old work.new }
+    ensures { Offered net.now (ChangesAll net.now work.old.done b p v fired.now) work.old work.new }
 {
     for q in 0..net.headers().count() {
-        change_at(net, paths, b, p, v, q, work);
+        change_at(net, fired, b, p, v, q, work);
     }
 }

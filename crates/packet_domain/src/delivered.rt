@@ -37,7 +37,7 @@ fn deliver<S: CellSet, L: Ledger>(
     work: &mut Work<S>,
     steps: &mut Steps<L>,
 )
-    requires made { paths.old.plan ≡ net.now }
+    requires made { paths.old ≡ net.now }
     requires cells { work.old.cells ≡ cells_of net.now }
     requires table { table.old.plan ≡ net.now }
     requires sized { IsSized net.now table.old.moves }
@@ -45,7 +45,7 @@ fn deliver<S: CellSet, L: Ledger>(
     requires inlet { IsInlet net.now inlet }
     requires packet { p < packets_of net.now }
     requires mask { IsMaskOf net.now inlet.b v }
-    ensures same { paths.new.plan ≡ paths.old.plan }
+    ensures same { paths.new ≡ paths.old }
     ensures table { table.new.plan ≡ table.old.plan }
     ensures offered { Offered net.now (IsDelivered net.now work.old.done inlet.end p inlet.b v) work.old work.new }
     ensures adds { Adds net.now (MovesBy net.now inlet.end p inlet.b v) table.old.moves table.new.moves }
@@ -53,9 +53,9 @@ fn deliver<S: CellSet, L: Ledger>(
 {
     net.sound();
     step_is_exact();
-    paths.fire(net, inlet.b, inlet.port, p, v, steps);
-    offer_results(net, paths, inlet.b, p, work);
-    change_by_results(net, paths, inlet.b, p, v, table, work);
+    let fired = paths.fire(net, inlet.b, inlet.port, p, v, steps);
+    offer_results(net, fired, inlet.b, p, work);
+    change_by_results(net, fired, inlet.b, p, v, table, work);
 }
 
 fn deliver_to<S: CellSet, L: Ledger>(
@@ -67,14 +67,14 @@ fn deliver_to<S: CellSet, L: Ledger>(
     work: &mut Work<S>,
     steps: &mut Steps<L>,
 )
-    requires made { paths.old.plan ≡ net.now }
+    requires made { paths.old ≡ net.now }
     requires cells { work.old.cells ≡ cells_of net.now }
     requires table { table.old.plan ≡ net.now }
     requires sized { IsSized net.now table.old.moves }
     requires followed { AreFollowed net.now table.old.moves work.old }
     requires inlet { IsInlet net.now inlet }
     requires packet { p < packets_of net.now }
-    ensures same { paths.new.plan ≡ paths.old.plan }
+    ensures same { paths.new ≡ paths.old }
     ensures table { table.new.plan ≡ table.old.plan }
     ensures offered { Offered net.now (DeliversTo net.now work.old.done inlet.end p inlet.b) work.old work.new }
     ensures adds { Adds net.now (MovesTo net.now work.old.done inlet.end p inlet.b) table.old.moves table.new.moves }
@@ -97,14 +97,14 @@ pub fn deliver_out<S: CellSet, L: Ledger>(
     work: &mut Work<S>,
     steps: &mut Steps<L>,
 )
-    requires made { paths.old.plan ≡ net.now }
+    requires made { paths.old ≡ net.now }
     requires cells { work.old.cells ≡ cells_of net.now }
     requires table { table.old.plan ≡ net.now }
     requires sized { IsSized net.now table.old.moves }
     requires followed { AreFollowed net.now table.old.moves work.old }
     requires end { end < ends_of net.now }
     requires packet { p < packets_of net.now }
-    ensures same { paths.new.plan ≡ paths.old.plan }
+    ensures same { paths.new ≡ paths.old }
     ensures table { table.new.plan ≡ table.old.plan }
     ensures offered { Offered net.now (AsOut net.now work.old.done end p) work.old work.new }
     ensures adds { Adds net.now (MovesAsOut net.now work.old.done end p) table.old.moves table.new.moves }
@@ -128,7 +128,7 @@ fn deliver_at<S: CellSet, L: Ledger>(
     work: &mut Work<S>,
     steps: &mut Steps<L>,
 )
-    requires made { paths.old.plan ≡ net.now }
+    requires made { paths.old ≡ net.now }
     requires cells { work.old.cells ≡ cells_of net.now }
     requires table { table.old.plan ≡ net.now }
     requires sized { IsSized net.now table.old.moves }
@@ -137,7 +137,7 @@ fn deliver_at<S: CellSet, L: Ledger>(
     requires packet { p < packets_of net.now }
     requires mask { IsMaskOf net.now b v }
     requires port { port < ports_of net.now (box_at net.now b) }
-    ensures same { paths.new.plan ≡ paths.old.plan }
+    ensures same { paths.new ≡ paths.old }
     ensures table { table.new.plan ≡ table.old.plan }
     ensures offered { Offered net.now (AsStateAt net.now work.old.done b p v port) work.old work.new }
     ensures adds { Adds net.now (MovesAsStateAt net.now work.old.done b p v port) table.old.moves table.new.moves }
@@ -161,7 +161,7 @@ fn deliver_where_done<S: CellSet, L: Ledger>(
     work: &mut Work<S>,
     steps: &mut Steps<L>,
 )
-    requires made { paths.old.plan ≡ net.now }
+    requires made { paths.old ≡ net.now }
     requires cells { work.old.cells ≡ cells_of net.now }
     requires table { table.old.plan ≡ net.now }
     requires sized { IsSized net.now table.old.moves }
@@ -169,7 +169,7 @@ fn deliver_where_done<S: CellSet, L: Ledger>(
     requires inlet { IsInlet net.now inlet }
     requires packet { p < packets_of net.now }
     requires mask { IsMaskOf net.now inlet.b v }
-    ensures same { paths.new.plan ≡ paths.old.plan }
+    ensures same { paths.new ≡ paths.old }
     ensures table { table.new.plan ≡ table.old.plan }
     ensures offered { Offered net.now (IsDeliveredFrom net.now work.old.done inlet.end p inlet.b v) work.old work.new }
     ensures adds { Adds net.now (MovesFrom net.now work.old.done inlet.end p inlet.b v) table.old.moves table.new.moves }
@@ -191,7 +191,7 @@ pub fn deliver_state<S: CellSet, L: Ledger>(
     work: &mut Work<S>,
     steps: &mut Steps<L>,
 )
-    requires made { paths.old.plan ≡ net.now }
+    requires made { paths.old ≡ net.now }
     requires cells { work.old.cells ≡ cells_of net.now }
     requires table { table.old.plan ≡ net.now }
     requires sized { IsSized net.now table.old.moves }
@@ -199,7 +199,7 @@ pub fn deliver_state<S: CellSet, L: Ledger>(
     requires boxed { b < boxes_of net.now }
     requires packet { p < packets_of net.now }
     requires mask { IsMaskOf net.now b v }
-    ensures same { paths.new.plan ≡ paths.old.plan }
+    ensures same { paths.new ≡ paths.old }
     ensures table { table.new.plan ≡ table.old.plan }
     ensures offered { Offered net.now (AsState net.now work.old.done b p v) work.old work.new }
     ensures adds { Adds net.now (MovesAsState net.now work.old.done b p v) table.old.moves table.new.moves }

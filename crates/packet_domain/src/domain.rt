@@ -44,7 +44,7 @@ impl<'a> Model for PacketDomain<'a> {
 
     ghost view = { λ domain. record { plan = domain.net.now; moves = domain.table.moves } };
 
-    ghost invariant = { λ domain. (domain.paths.plan ≡ domain.net.now) × (domain.table.plan ≡ domain.net.now) };
+    ghost invariant = { λ domain. (domain.paths ≡ domain.net.now) × (domain.table.plan ≡ domain.net.now) };
 }
 
 impl<'a> PacketDomain<'a> {

@@ -11,7 +11,7 @@ ghost use Rattle.packet_domain.specs.Reasons.{ChangesAll};
 ghost use Rattle.packet_domain.specs.Table.{ResultMoves, SomeMoves};
 
 use crate::changes::change_all;
-use abstract_step::Paths;
+use abstract_step::Fired;
 use box_moves::is_kept;
 use cell_sets::CellSet;
 use fix_engine::Work;
@@ -20,7 +20,7 @@ use net_plan::Network;
 
 fn note_result<S: CellSet>(
     net: &Network,
-    paths: &Paths<'_>,
+    fired: &Fired,
     b: u32,
     p: u32,
     v: u16,
@@ -36,20 +36,20 @@ fn note_result<S: CellSet>(
     requires kept { IsKept net.now b }
     requires packet { p < packets_of net.now }
     requires mask { IsMaskOf net.now b v }
-    requires result { i < length paths.now.results }
+    requires result { i < length fired.now }
     ensures table { table.new.plan ≡ table.old.plan }
-    ensures noted { Noted net.now (ResultMoves net.now b p v (result_at paths.now.results i)) table.old.moves table.new.moves
+    ensures noted { Noted net.now (ResultMoves net.now b p v (result_at fired.now i)) table.old.moves table.new.moves
         work.old work.new }
 {
-    if !paths.aborted(i) {
-        table.note(b, p, v, paths.update(i), work);
+    if !fired.aborted(i) {
+        table.note(b, p, v, fired.update(i), work);
     }
 }
 
 // Notes the moves that the results make, and offers what these make of all answers of the box that are done.
 fn note_results<S: CellSet>(
     net: &Network,
-    paths: &Paths<'_>,
+    fired: &Fired,
     b: u32,
     p: u32,
     v: u16,
@@ -65,17 +65,17 @@ fn note_results<S: CellSet>(
     requires packet { p < packets_of net.now }
     requires mask { IsMaskOf net.now b v }
     ensures table { table.new.plan ≡ table.old.plan }
-    ensures noted { Noted net.now (SomeMoves net.now b p v paths.now.results) table.old.moves table.new.moves work.old work.new }
+    ensures noted { Noted net.now (SomeMoves net.now b p v fired.now) table.old.moves table.new.moves work.old work.new }
 {
-    for i in 0..paths.len() {
-        note_result(net, paths, b, p, v, i, table, work);
+    for i in 0..fired.len() {
+        note_result(net, fired, b, p, v, i, table, work);
     }
 }
 
 /// Offers what the results make of all answers of the box that are done. In a box that is kept it notes the moves.
 pub fn change_by_results<S: CellSet>(
     net: &Network,
-    paths: &Paths<'_>,
+    fired: &Fired,
     b: u32,
     p: u32,
     v: u16,
@@ -90,13 +90,13 @@ pub fn change_by_results<S: CellSet>(
     requires packet { p < packets_of net.now }
     requires mask { IsMaskOf net.now b v }
     ensures table { table.new.plan ≡ table.old.plan }
-    ensures offered { Offered net.now (ChangesAll net.now work.old.done b p v paths.now.results) work.old work.new }
-    ensures adds { Adds net.now (SomeMoves net.now b p v paths.now.results) table.old.moves table.new.moves }
+    ensures offered { Offered net.now (ChangesAll net.now work.old.done b p v fired.now) work.old work.new }
+    ensures adds { Adds net.now (SomeMoves net.now b p v fired.now) table.old.moves table.new.moves }
     ensures followed { AreFollowed net.now table.new.moves work.new }
 {
     if is_kept(net, b) {
-        note_results(net, paths, b, p, v, table, work);
+        note_results(net, fired, b, p, v, table, work);
     } else {
-        change_all(net, paths, b, p, v, work);
+        change_all(net, fired, b, p, v, work);
     }
 }

@@ -7,7 +7,7 @@ ghost use Rattle.abstract_step.specs.Step.{result_at, IsPut};
 ghost use Rattle.move_table.specs.Offered.{Offered};
 ghost use Rattle.packet_domain.specs.Reasons.{IsPutOut, ArePutOut, Gives, SomeGives};
 
-use abstract_step::{Paths, Put};
+use abstract_step::{Fired, Put};
 use cell_sets::CellSet;
 use fix_engine::Work;
 use move_table::offer;
@@ -36,7 +36,7 @@ fn offer_puts<S: CellSet>(net: &Network, b: u32, puts: &[Put], work: &mut Work<S
 
 fn offer_result<S: CellSet>(
     net: &Network,
-    paths: &Paths<'_>,
+    fired: &Fired,
     b: u32,
     p: u32,
     i: usize,
@@ -45,32 +45,26 @@ fn offer_result<S: CellSet>(
     requires cells { work.old.cells ≡ cells_of net.now }
     requires boxed { b < boxes_of net.now }
     requires packet { p < packets_of net.now }
-    requires result { i < length paths.now.results }
-    requires in_range { All (λ result. All (IsPut net.now b) result.puts) paths.now.results }
-    ensures { Offered net.now (Gives net.now b p (result_at paths.now.results i)) work.old work.new }
+    requires result { i < length fired.now }
+    requires in_range { All (λ result. All (IsPut net.now b) result.puts) fired.now }
+    ensures { Offered net.now (Gives net.now b p (result_at fired.now i)) work.old work.new }
 {
-    if paths.aborted(i) {
+    if fired.aborted(i) {
         offer(net, Fact::Abort(b, p), work);
     } else {
-        offer_puts(net, b, paths.outs(i), work);
+        offer_puts(net, b, fired.outs(i), work);
     }
 }
 
 /// Offers what the results put out, and the abort of those that abort.
-pub fn offer_results<S: CellSet>(
-    net: &Network,
-    paths: &Paths<'_>,
-    b: u32,
-    p: u32,
-    work: &mut Work<S>,
-)
+pub fn offer_results<S: CellSet>(net: &Network, fired: &Fired, b: u32, p: u32, work: &mut Work<S>)
     requires cells { work.old.cells ≡ cells_of net.now }
     requires boxed { b < boxes_of net.now }
     requires packet { p < packets_of net.now }
-    requires in_range { All (λ result. All (IsPut net.now b) result.puts) paths.now.results }
-    ensures { Offered net.now (SomeGives net.now b p paths.now.results) work.old work.new }
+    requires in_range { All (λ result. All (IsPut net.now b) result.puts) fired.now }
+    ensures { Offered net.now (SomeGives net.now b p fired.now) work.old work.new }
 {
-    for i in 0..paths.len() {
-        offer_result(net, paths, b, p, i, work);
+    for i in 0..fired.len() {
+        offer_result(net, fired, b, p, i, work);
     }
 }

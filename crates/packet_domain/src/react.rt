@@ -63,13 +63,13 @@ fn change_answers<S: CellSet, L: Ledger>(
     work: &mut Work<S>,
     steps: &mut Steps<L>,
 )
-    requires made { paths.old.plan ≡ net.now }
+    requires made { paths.old ≡ net.now }
     requires cells { work.old.cells ≡ cells_of net.now }
     requires table { table.now.plan ≡ net.now }
     requires boxed { b < boxes_of net.now }
     requires packet { q < packets_of net.now }
     requires mask { IsMaskOf net.now b w }
-    ensures same { paths.new.plan ≡ paths.old.plan }
+    ensures same { paths.new ≡ paths.old }
     ensures offered { Offered net.now (ChangesAs net.now table.now.moves work.old.done b q w) work.old work.new }
 {
     if is_kept(net, b) {
@@ -90,14 +90,14 @@ fn react_to_state<S: CellSet, L: Ledger>(
     work: &mut Work<S>,
     steps: &mut Steps<L>,
 )
-    requires made { paths.old.plan ≡ net.now }
+    requires made { paths.old ≡ net.now }
     requires cells { work.old.cells ≡ cells_of net.now }
     requires table { table.old.plan ≡ net.now }
     requires sized { IsSized net.now table.old.moves }
     requires in_range { IsInRange net.now (State b p v) }
     requires tracks { (before : Progress) × Takes before (cell_of net.now (State b p v)) work.old
         × Tracks net.now table.old.moves before }
-    ensures same { paths.new.plan ≡ paths.old.plan }
+    ensures same { paths.new ≡ paths.old }
     ensures table { table.new.plan ≡ table.old.plan }
     ensures offered { Offered net.now (Reacts net.now work.old.done (State b p v)) work.old work.new }
     ensures adds { Adds net.now (MovesAs net.now work.old.done (State b p v)) table.old.moves table.new.moves }
@@ -115,13 +115,13 @@ fn react_to<S: CellSet, L: Ledger>(
     work: &mut Work<S>,
     steps: &mut Steps<L>,
 )
-    requires made { paths.old.plan ≡ net.now }
+    requires made { paths.old ≡ net.now }
     requires cells { work.old.cells ≡ cells_of net.now }
     requires table { table.old.plan ≡ net.now }
     requires sized { IsSized net.now table.old.moves }
     requires in_range { IsInRange net.now fact }
     requires tracks { (before : Progress) × Takes before (cell_of net.now fact) work.old × Tracks net.now table.old.moves before }
-    ensures same { paths.new.plan ≡ paths.old.plan }
+    ensures same { paths.new ≡ paths.old }
     ensures table { table.new.plan ≡ table.old.plan }
     ensures offered { Offered net.now (Reacts net.now work.old.done fact) work.old work.new }
     ensures adds { Adds net.now (MovesAs net.now work.old.done fact) table.old.moves table.new.moves }
@@ -144,12 +144,12 @@ pub fn react<S: CellSet, L: Ledger>(
     work: &mut Work<S>,
     steps: &mut Steps<L>,
 )
-    requires made { paths.old.plan ≡ net.now }
+    requires made { paths.old ≡ net.now }
     requires cells { work.old.cells ≡ cells_of net.now }
     requires table { table.old.plan ≡ net.now }
     requires sized { IsSized net.now table.old.moves }
     requires tracks { (before : Progress) × Takes before cell work.old × Tracks net.now table.old.moves before }
-    ensures same { paths.new.plan ≡ paths.old.plan }
+    ensures same { paths.new ≡ paths.old }
     ensures table { table.new.plan ≡ table.old.plan }
     ensures grows { Grows work.old work.new }
     ensures all { HasReacted (Follows net.now) cell work.old.done (found_in work.new) }

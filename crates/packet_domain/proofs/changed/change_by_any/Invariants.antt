@@ -9,7 +9,7 @@ use Rattle.packet_domain.proofs.changed.change_by_any.Given as goal
 abbrev pub invariant-loop-v : goal.invariant-loop-v
 invariant-loop-v g l =
     record {
-      made : l.paths.plan ≡ l.net;
+      made : l.paths ≡ l.net;
       turns : Offered l.net (UpTo l.net (Known l.net (State l.inlet.b l.p)
           (λ done v. Follows l.net (Out l.inlet.end l.p ∷ State l.inlet.b l.p v ∷ State l.inlet.b l.q l.w ∷ [])) l.initial.work.done) l.at)
           l.initial.work l.work;

@@ -9,7 +9,7 @@ use Rattle.packet_domain.proofs.changed.change_from.Given as goal
 abbrev pub invariant-loop-p : goal.invariant-loop-p
 invariant-loop-p g l =
     record {
-      made : l.paths.plan ≡ l.net;
+      made : l.paths ≡ l.net;
       turns : Offered l.net (UpTo l.net (Known l.net (Out l.inlet.end)
           (λ done p. AsChangedBy l.net done l.inlet.end p l.inlet.b l.q l.w) l.initial.work.done) l.at)
           l.initial.work l.work;

@@ -8,7 +8,7 @@ use Rattle.packet_domain.proofs.changed.change_state.Given as goal
 abbrev pub invariant-loop-port : goal.invariant-loop-port
 invariant-loop-port g l =
     record {
-      made : l.paths.plan ≡ l.net;
+      made : l.paths ≡ l.net;
       turns : Offered l.net (UpTo l.net (Below l.net (ports_of l.net (box_at l.net l.b))
           (λ done port. AsChangedAt l.net done l.b l.q l.w port) l.initial.work.done) l.port) l.initial.work l.work;
     }

@@ -9,7 +9,7 @@ pub loop-q-preserved : goal.loop-q-preserved
 loop-q-preserved g c =
     let plan = c.args.net.now in
     below_turn plan (packets_of plan)
-    (λ (done : List ℕ) (q : ℕ). ChangesAt plan done c.args.b c.args.p c.args.v c.args.paths.now.results q) c.loop-q.q
+    (λ (done : List ℕ) (q : ℕ). ChangesAt plan done c.args.b c.args.p c.args.v c.args.fired.now q) c.loop-q.q
     c.args.work.now c.loop-q.work c.change_at.new.work
     (subst (λ (n : ℕ). c.loop-q.q < n) (c.count-q-end.ensures.product ∙ ap product c.headers.ensures) c.loop-q-test.true)
     c.loop-q.invariant c.change_at.ensures
@@ -18,7 +18,7 @@ pub returns : goal.returns
 returns g c =
     let plan = c.args.net.now in
     below_all plan (packets_of plan)
-    (λ (done : List ℕ) (q : ℕ). ChangesAt plan done c.args.b c.args.p c.args.v c.args.paths.now.results q) c.loop-q.q
+    (λ (done : List ℕ) (q : ℕ). ChangesAt plan done c.args.b c.args.p c.args.v c.args.fired.now q) c.loop-q.q
     c.args.work.now c.loop-q.work
     (subst (λ (n : ℕ). n ≤ c.loop-q.q) (c.count-q-end.ensures.product ∙ ap product c.headers.ensures)
     c.loop-q-test.false) c.loop-q.invariant

@@ -7,4 +7,4 @@ use Rattle.packet_domain.proofs.changes.change_all.Given as goal
 abbrev pub invariant-loop-q : goal.invariant-loop-q
 invariant-loop-q g l =
     Offered l.net (UpTo l.net (Below l.net (packets_of l.net)
-    (λ done q. ChangesAt l.net done l.b l.p l.v l.paths.results q) l.initial.work.done) l.q) l.initial.work l.work
+    (λ done q. ChangesAt l.net done l.b l.p l.v l.fired q) l.initial.work.done) l.q) l.initial.work l.work

@@ -10,7 +10,7 @@ abbrev pub invariant-loop-w : goal.invariant-loop-w
 invariant-loop-w g l =
     record {
       turns : Offered l.net (UpTo l.net (Known l.net (State l.b l.q)
-          (λ done w. AgreeingChanges l.net l.b l.p l.v l.paths.results l.q w) l.initial.work.done) l.at)
+          (λ done w. AgreeingChanges l.net l.b l.p l.v l.fired l.q w) l.initial.work.done) l.at)
           l.initial.work l.work;
       within : l.at ≤ masks_of l.net (box_at l.net l.b);
     }

@@ -10,12 +10,12 @@ loop-i-preserved g c =
     let P = λ (result : Result). IsChange plan c.args.b result c.args.q c.args.w in
     let now = c.loop-i.work in
     let new = c.offer_change.new.work in
-    offered_more plan (Member plan P c.args.paths.now.results) c.loop-i.i c.args.work.now now new c.loop-i.invariant
-    (place_turn plan P c.args.paths.now.results c.loop-i.i _ now new
+    offered_more plan (Member plan P c.args.fired.now) c.loop-i.i c.args.work.now now new c.loop-i.invariant
+    (place_turn plan P c.args.fired.now c.loop-i.i _ now new
     (subst (λ (n : ℕ). c.loop-i.i < n) c.len-i-end.ensures c.loop-i-test.true) c.offer_change.ensures)
 
 pub returns : goal.returns
 returns g c =
     members_all c.args.net.now (λ (result : Result). IsChange c.args.net.now c.args.b result c.args.q c.args.w)
-    c.args.paths.now.results c.loop-i.i c.args.work.now c.loop-i.work
+    c.args.fired.now c.loop-i.i c.args.work.now c.loop-i.work
     (subst (λ (n : ℕ). n ≤ c.loop-i.i) c.len-i-end.ensures c.loop-i-test.false) c.loop-i.invariant

@@ -11,7 +11,7 @@ use Rattle.packet_domain.proofs.delivered.deliver_state.Given as goal
 abbrev pub invariant-loop-port : goal.invariant-loop-port
 invariant-loop-port g l =
     record {
-      made : l.paths.plan ≡ l.net;
+      made : l.paths ≡ l.net;
       table : l.table.plan ≡ l.net;
       followed : AreFollowed l.net l.table.moves l.work;
       turns : Offered l.net (UpTo l.net (Below l.net (ports_of l.net (box_at l.net l.b))

@@ -12,7 +12,7 @@ use Rattle.packet_domain.proofs.delivered.deliver_to.Given as goal
 abbrev pub invariant-loop-v : goal.invariant-loop-v
 invariant-loop-v g l =
     record {
-      made : l.paths.plan ≡ l.net;
+      made : l.paths ≡ l.net;
       table : l.table.plan ≡ l.net;
       followed : AreFollowed l.net l.table.moves l.work;
       turns : Offered l.net (UpTo l.net (Known l.net (State l.inlet.b l.p) (λ done v. IsDelivered l.net done l.inlet.end l.p l.inlet.b v) l.initial.work.done) l.at)

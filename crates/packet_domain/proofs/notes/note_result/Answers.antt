@@ -7,7 +7,7 @@ use Rattle.packet_domain.proofs.notes.note_result.Goals as goal
 
 pub returns-then-not-aborted-clause-noted : goal.returns-then-not-aborted-clause-noted
 returns-then-not-aborted-clause-noted g c =
-    result_goes_on c.args.net.now c.args.b c.args.p c.args.v (result_at c.args.paths.now.results c.args.i)
+    result_goes_on c.args.net.now c.args.b c.args.p c.args.v (result_at c.args.fired.now c.args.i)
     c.args.table.now.moves c.note.new.self.moves c.args.work.now c.note.new.work
     (sym c.aborted.ensures ∙ c.if-not-aborted.true)
     (subst (λ writes. Noted c.args.net.now (Patches c.args.net.now c.args.b c.args.p c.args.v writes)
@@ -18,5 +18,5 @@ returns-then-not-aborted-clause-noted g c =
 
 pub returns-else-not-aborted-clause-noted : goal.returns-else-not-aborted-clause-noted
 returns-else-not-aborted-clause-noted g c =
-    result_aborts c.args.net.now c.args.b c.args.p c.args.v (result_at c.args.paths.now.results c.args.i)
+    result_aborts c.args.net.now c.args.b c.args.p c.args.v (result_at c.args.fired.now c.args.i)
     c.args.table.now.moves c.args.work.now c.requires.sized (sym c.aborted.ensures ∙ c.if-not-aborted.false)

@@ -9,7 +9,7 @@ pub loop-i-init : goal.loop-i-init
 loop-i-init g c =
     record {
       table = c.requires.table;
-      noted = among_none c.args.net.now c.args.paths.now.results
+      noted = among_none c.args.net.now c.args.fired.now
           (λ (result : Result). ResultMoves c.args.net.now c.args.b c.args.p c.args.v result) c.args.table.now.moves
           c.args.work.now c.requires.sized;
     }
@@ -17,7 +17,7 @@ loop-i-init g c =
 pub note_result-requires-clause-followed : goal.note_result-requires-clause-followed
 note_result-requires-clause-followed g c =
     followed_noted c.args.net.now
-    (AmongFirst c.args.net.now c.args.paths.now.results
+    (AmongFirst c.args.net.now c.args.fired.now
     (λ (result : Result). ResultMoves c.args.net.now c.args.b c.args.p c.args.v result) c.loop-i.i)
     c.args.table.now.moves c.loop-i.table.moves c.args.work.now c.loop-i.work c.loop-i.invariant.noted
     c.requires.followed
@@ -26,7 +26,7 @@ pub loop-i-preserved : goal.loop-i-preserved
 loop-i-preserved g c =
     record {
       table = c.note_result.ensures.table ∙ c.loop-i.invariant.table;
-      noted = among_turn c.args.net.now c.args.paths.now.results
+      noted = among_turn c.args.net.now c.args.fired.now
           (λ (result : Result). ResultMoves c.args.net.now c.args.b c.args.p c.args.v result) c.loop-i.i _
           c.args.table.now.moves c.loop-i.table.moves c.note_result.new.table.moves c.args.work.now c.loop-i.work
           c.note_result.new.work (subst (λ (n : ℕ). c.loop-i.i < n) c.len-i-end.ensures c.loop-i-test.true)
@@ -35,7 +35,7 @@ loop-i-preserved g c =
 
 pub returns-clause-noted : goal.returns-clause-noted
 returns-clause-noted g c =
-    among_all c.args.net.now c.args.paths.now.results
+    among_all c.args.net.now c.args.fired.now
     (λ (result : Result). ResultMoves c.args.net.now c.args.b c.args.p c.args.v result) c.loop-i.i
     c.args.table.now.moves c.loop-i.table.moves c.args.work.now c.loop-i.work
     (subst (λ (n : ℕ). n ≤ c.loop-i.i) c.len-i-end.ensures c.loop-i-test.false) c.loop-i.invariant.noted

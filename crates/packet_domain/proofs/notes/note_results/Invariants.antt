@@ -8,6 +8,6 @@ abbrev pub invariant-loop-i : goal.invariant-loop-i
 invariant-loop-i g l =
     record {
       table : l.table.plan ≡ l.net;
-      noted : Noted l.net (AmongFirst l.net l.paths.results (λ result. ResultMoves l.net l.b l.p l.v result) l.i)
+      noted : Noted l.net (AmongFirst l.net l.fired (λ result. ResultMoves l.net l.b l.p l.v result) l.i)
           l.initial.table.moves l.table.moves l.initial.work l.work;
     }

@@ -5,4 +5,4 @@ use Rattle.packet_domain.proofs.offers.offer_results.Given as goal
 
 abbrev pub invariant-loop-i : goal.invariant-loop-i
 invariant-loop-i g l =
-    Offered l.net (UpTo l.net (Member l.net (Gives l.net l.b l.p) l.paths.results) l.i) l.initial.work l.work
+    Offered l.net (UpTo l.net (Member l.net (Gives l.net l.b l.p) l.fired) l.i) l.initial.work l.work
