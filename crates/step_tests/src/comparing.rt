@@ -7,7 +7,7 @@ ghost use Rattle.packet_state.specs.Answers.{class_of_box};
 
 use crate::executions::{all_contents, all_endings, sizes_of_box};
 use crate::texts::Planned;
-use abstract_step::{Paths, Put};
+use abstract_step::{Fired, Paths, Put};
 use amdl_tree::{List, NoMemory};
 use box_contents::Contents;
 use box_masks::{Write, agree, answers, patch};
@@ -19,7 +19,7 @@ use step_count::Steps;
 
 /// A result of `fire`.
 #[derive(Drop)]
-struct Fired {
+struct Copied {
     aborted: bool,
     writes: List<Write>,
     puts: List<Put>,
@@ -138,7 +138,7 @@ fn results_by_mask<L: Ledger>(
     port: u32,
     p: u32,
     steps: &mut Steps<L>,
-) -> Result<List<List<Fired>>, NoMemory>
+) -> Result<List<List<Copied>>, NoMemory>
     requires boxed { b < boxes_of net.now }
     requires port { port < ports_of net.now (box_at net.now b) }
     requires packet { p < packets_of net.now }
@@ -146,19 +146,19 @@ fn results_by_mask<L: Ledger>(
     let mut paths = Paths::new(alloc, net)?;
     let mut results = List::new(alloc);
     for v in 0..masks(net, b) {
-        paths.fire(net, b, port, p, v, steps);
-        results.push(results_of(alloc, &paths)?)?;
+        let fired = paths.fire(net, b, port, p, v, steps);
+        results.push(results_of(alloc, fired)?)?;
     }
     Ok(results)
 }
 
-fn results_of(alloc: Global, paths: &Paths<'_>) -> Result<List<Fired>, NoMemory> {
+fn results_of(alloc: Global, fired: &Fired) -> Result<List<Copied>, NoMemory> {
     let mut results = List::new(alloc);
-    for i in 0..paths.len() {
-        results.push(Fired {
-            aborted: paths.aborted(i),
-            writes: copy_of(alloc, paths.update(i))?,
-            puts: copy_of(alloc, paths.outs(i))?,
+    for i in 0..fired.len() {
+        results.push(Copied {
+            aborted: fired.aborted(i),
+            writes: copy_of(alloc, fired.update(i))?,
+            puts: copy_of(alloc, fired.outs(i))?,
         })?;
     }
     Ok(results)
@@ -181,7 +181,7 @@ fn fires_exactly(
     port: u32,
     p: u32,
     all: &[Contents],
-    results: &[List<Fired>],
+    results: &[List<Copied>],
 ) -> Result<bool, NoMemory>
     requires sizes { sizes.now ≡ relations_of net.now (class_of_box net.now b) }
     requires boxed { b < boxes_of net.now }
@@ -207,7 +207,7 @@ fn fires_exactly(
 }
 
 // Whether there is no result from a mask that no contents show.
-fn fires_where_shown(pairs: &[(u16, u16)], results: &[List<Fired>]) -> bool {
+fn fires_where_shown(pairs: &[(u16, u16)], results: &[List<Copied>]) -> bool {
     for (v, from_mask) in results.iter().enumerate() {
         let shown = pairs.iter().any(|pair| pair.0 as usize == v);
         if !shown && !from_mask.as_slice().is_empty() {
@@ -220,7 +220,7 @@ fn fires_where_shown(pairs: &[(u16, u16)], results: &[List<Fired>]) -> bool {
 // Whether each ending has its result, and each result its ending.
 fn are_those_of(
     contents: &Contents,
-    results: &[Fired],
+    results: &[Copied],
     endings: &[Ending],
 ) -> Result<bool, NoMemory> {
     for ending in endings {
@@ -238,7 +238,7 @@ fn are_those_of(
 
 fn some_result_stands_for(
     contents: &Contents,
-    results: &[Fired],
+    results: &[Copied],
     ending: &Ending,
 ) -> Result<bool, NoMemory> {
     for one in results {
@@ -251,7 +251,7 @@ fn some_result_stands_for(
 
 fn stands_for_some_ending(
     contents: &Contents,
-    fired: &Fired,
+    fired: &Copied,
     endings: &[Ending],
 ) -> Result<bool, NoMemory> {
     for ending in endings {
@@ -263,7 +263,7 @@ fn stands_for_some_ending(
 }
 
 // Whether an execution from these contents that ends so has this result.
-fn stands_for(contents: &Contents, fired: &Fired, ending: &Ending) -> Result<bool, NoMemory> {
+fn stands_for(contents: &Contents, fired: &Copied, ending: &Ending) -> Result<bool, NoMemory> {
     let writes = fired.writes.as_slice();
     let puts = fired.puts.as_slice();
     match ending {
@@ -309,7 +309,7 @@ fn patches_exactly(
     net: &Network,
     b: u32,
     contents: &Contents,
-    results: &[Fired],
+    results: &[Copied],
 ) -> Result<bool, NoMemory>
     requires { b < boxes_of net.now }
 {

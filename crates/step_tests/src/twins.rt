@@ -4,7 +4,7 @@ ghost use Rattle.std.specs.Prelude.{◌≡◌, ◌<◌, IsTrue};
 ghost use Rattle.net_plan.specs.Plan.{packets_of, boxes_of, box_at, ports_of, masks_of};
 
 use crate::texts::network_of;
-use abstract_step::{Paths, Put};
+use abstract_step::{Fired, Paths, Put};
 use amdl_tree::NoMemory;
 use box_masks::{Write, agree, patch};
 use net_plan::{Entry, Network};
@@ -90,40 +90,43 @@ fn patches(net: &Network) -> bool
 }
 
 // Whether there is one result, which puts r(a) in and puts out just these.
-fn is_only_result(paths: &Paths<'_>, puts: &[Put]) -> bool {
-    paths.len() == 1
-        && !paths.aborted(0)
-        && paths.update(0) == [ADDED].as_slice()
-        && paths.outs(0) == puts
+fn is_only_result(fired: &Fired, puts: &[Put]) -> bool {
+    fired.len() == 1
+        && !fired.aborted(0)
+        && fired.update(0) == [ADDED].as_slice()
+        && fired.outs(0) == puts
 }
 
-// The results on packet 0, from contents that answer with the mask at it.
-fn fire_from<L: Ledger>(net: &Network, mask: u16, paths: &mut Paths<'_>, steps: &mut Steps<L>)
-    requires made { paths.old.plan ≡ net.now }
+// Whether there is such a result alone on packet 0, from contents that answer with the mask at it.
+fn fires_only<L: Ledger>(
+    net: &Network,
+    mask: u16,
+    puts: &[Put],
+    paths: &mut Paths<'_>,
+    steps: &mut Steps<L>,
+) -> bool
+    requires made { paths.old ≡ net.now }
     requires boxed { 0 < boxes_of net.now }
     requires port { 0 < ports_of net.now (box_at net.now 0) }
     requires packets { packets_of net.now ≡ 4 }
     requires mask { mask < masks_of net.now (box_at net.now 0) }
-    ensures { paths.new.plan ≡ net.now }
+    ensures { paths.new ≡ net.now }
 {
-    paths.fire(net, 0, 0, 0, mask, steps);
+    is_only_result(paths.fire(net, 0, 0, 0, mask, steps), puts)
 }
 
 // Whether packet 0 is put out at port 1 where the box holds r(a), stays in where it doesn't, and where one query says
 // so and the other not there is no result.
 fn fires<L: Ledger>(net: &Network, paths: &mut Paths<'_>, steps: &mut Steps<L>) -> bool
-    requires made { paths.old.plan ≡ net.now }
+    requires made { paths.old ≡ net.now }
     requires boxed { 0 < boxes_of net.now }
     requires port { 0 < ports_of net.now (box_at net.now 0) }
     requires packets { packets_of net.now ≡ 4 }
     requires masks { masks_of net.now (box_at net.now 0) ≡ 4 }
 {
-    fire_from(net, 0, paths, steps);
-    let stays = is_only_result(paths, &[]);
-    fire_from(net, 3, paths, steps);
-    let goes = is_only_result(paths, &[Put { port: 1, packet: 0 }]);
-    fire_from(net, 1, paths, steps);
-    stays && goes && paths.len() == 0
+    let stays = fires_only(net, 0, &[], paths, steps);
+    let goes = fires_only(net, 3, &[Put { port: 1, packet: 0 }], paths, steps);
+    stays && goes && paths.fire(net, 0, 0, 0, 1, steps).len() == 0
 }
 
 fn fires_so<L: Ledger>(alloc: Global, net: &Network, blank: Blank) -> Result<bool, NoMemory>
