@@ -7,7 +7,7 @@ ghost use Rattle.net_plan.specs.Cells.{cells_of};
 ghost use Rattle.net_plan.specs.Ends.{ends_of};
 
 use crate::found::{Found, masks};
-use abstract_step::{Paths, Put};
+use abstract_step::{Fired, Paths, Put};
 use amdl_tree::NoMemory;
 use box_masks::{Write, agree, first_answers, patch};
 use net_plan::{Fact, Network, Place};
@@ -77,9 +77,9 @@ fn deliver_cell<L: Ledger>(
     found: &mut Found,
     steps: &mut Steps<L>,
 )
-    requires made { paths.old.plan ≡ net.now }
+    requires made { paths.old ≡ net.now }
     requires cell { cell < cells_of net.now }
-    ensures { paths.new.plan ≡ net.now }
+    ensures { paths.new ≡ net.now }
 {
     if let Fact::Out(end, p) = net.fact_at(cell) {
         deliver(net, paths, end, p, found, steps);
@@ -95,10 +95,10 @@ fn deliver<L: Ledger>(
     found: &mut Found,
     steps: &mut Steps<L>,
 )
-    requires made { paths.old.plan ≡ net.now }
+    requires made { paths.old ≡ net.now }
     requires end { end < ends_of net.now }
     requires packet { p < packets_of net.now }
-    ensures { paths.new.plan ≡ net.now }
+    ensures { paths.new ≡ net.now }
 {
     let Some(other) = net.partner(end) else {
         return;
@@ -123,32 +123,32 @@ fn deliver_to<L: Ledger>(
     found: &mut Found,
     steps: &mut Steps<L>,
 )
-    requires made { paths.old.plan ≡ net.now }
+    requires made { paths.old ≡ net.now }
     requires boxed { b < boxes_of net.now }
     requires port { port < ports_of net.now (box_at net.now b) }
     requires packet { p < packets_of net.now }
-    ensures { paths.new.plan ≡ net.now }
+    ensures { paths.new ≡ net.now }
 {
     for v in 0..masks(net, b) {
         if found.has_fact(net, Fact::State(b, p, v)) {
-            paths.fire(net, b, port, p, v, steps);
-            put_results(net, paths, b, p, v, found);
+            let fired = paths.fire(net, b, port, p, v, steps);
+            put_results(net, fired, b, p, v, found);
         }
     }
 }
 
 // Puts in what follows from each result.
-fn put_results(net: &Network, paths: &Paths<'_>, b: u32, p: u32, v: u16, found: &mut Found)
+fn put_results(net: &Network, fired: &Fired, b: u32, p: u32, v: u16, found: &mut Found)
     requires boxed { b < boxes_of net.now }
     requires packet { p < packets_of net.now }
     requires mask { IsMaskOf net.now b v }
 {
-    for i in 0..paths.len() {
-        if paths.aborted(i) {
+    for i in 0..fired.len() {
+        if fired.aborted(i) {
             found.put(net, Fact::Abort(b, p));
         } else {
-            put_outs(net, b, paths.outs(i), found);
-            put_changes(net, b, p, v, paths.update(i), found);
+            put_outs(net, b, fired.outs(i), found);
+            put_changes(net, b, p, v, fired.update(i), found);
         }
     }
 }
