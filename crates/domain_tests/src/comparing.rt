@@ -27,16 +27,33 @@ pub(crate) enum Verdict {
     NoNetwork,
 }
 
+/// A verdict, and how many answers are found beside the first ones.
+#[derive(Clone, Copy, PartialEq, Eq, Debug)]
+pub(crate) struct Outcome {
+    pub(crate) verdict: Verdict,
+    pub(crate) more: u32,
+}
+
 /// Compares the facts of the network of a text.
 pub(crate) fn compare(alloc: Global, text: &str) -> Result<Verdict, NoMemory> {
+    let outcome = report(alloc, text)?;
+    Ok(outcome.verdict)
+}
+
+/// Compares the facts of the network of a text, and counts its answers.
+pub(crate) fn report(alloc: Global, text: &str) -> Result<Outcome, NoMemory> {
     match network_of(alloc, text)? {
         Some(net) => compared::<Brand>(alloc, &net, Blank::new(1)),
-        None => Ok(Verdict::NoNetwork),
+        None => Ok(bare(Verdict::NoNetwork)),
     }
 }
 
+fn bare(verdict: Verdict) -> Outcome {
+    Outcome { verdict, more: 0 }
+}
+
 // The same, with steps that are counted in a ledger of the call's own.
-fn compared<L: Ledger>(alloc: Global, net: &Network, blank: Blank) -> Result<Verdict, NoMemory>
+fn compared<L: Ledger>(alloc: Global, net: &Network, blank: Blank) -> Result<Outcome, NoMemory>
     requires name { blank.name ≡ L.name }
     requires parts { blank.parts ≡ L.parts }
     requires some { 0 < blank.parts }
@@ -44,8 +61,11 @@ fn compared<L: Ledger>(alloc: Global, net: &Network, blank: Blank) -> Result<Ver
     let mut steps: Steps<L> = Steps::new(blank);
     let set = found_by_domain(alloc, net, &mut steps)?;
     match found_plainly(alloc, net, &mut steps)? {
-        Some(found) => Ok(verdict_of(net, &found, &set)),
-        None => Ok(Verdict::Different),
+        Some(found) => Ok(Outcome {
+            verdict: verdict_of(net, &found, &set),
+            more: more_answers(net, &found),
+        }),
+        None => Ok(bare(Verdict::Different)),
     }
 }
 
@@ -61,7 +81,7 @@ fn found_by_domain<L: Ledger>(
 fn verdict_of(net: &Network, found: &Found, set: &BitSet) -> Verdict {
     if found.strays || !are_same(net, found, set) {
         Verdict::Different
-    } else if change_answers(net, found) {
+    } else if more_answers(net, found) > 0 {
         Verdict::Same
     } else {
         Verdict::Still
@@ -81,19 +101,20 @@ fn are_same(net: &Network, found: &Found, set: &BitSet) -> bool {
     true
 }
 
-// Whether two answers of a box at one packet are found.
-fn change_answers(net: &Network, found: &Found) -> bool {
+// How many answers are found beside the first ones.
+fn more_answers(net: &Network, found: &Found) -> u32 {
+    let mut more: u32 = 0;
     let mut last = None;
     for cell in 0..net.cells() {
         if found.has(cell) {
             let place = box_and_packet(net.fact_at(cell));
             if place.is_some() && place == last {
-                return true;
+                more = more.wrapping_add(1);
             }
             last = place;
         }
     }
-    false
+    more
 }
 
 // Of what box and packet a fact tells answers.

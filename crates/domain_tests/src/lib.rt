@@ -5,7 +5,15 @@
 #[cfg(test)]
 mod comparing;
 #[cfg(test)]
+mod dice;
+#[cfg(test)]
 mod found;
+#[cfg(test)]
+mod made_boxes;
+#[cfg(test)]
+mod many_boxes;
+#[cfg(test)]
+mod pair_boxes;
 #[cfg(test)]
 mod plain;
 #[cfg(test)]
