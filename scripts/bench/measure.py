@@ -3,13 +3,15 @@
 
 measure.py [PROGRAM]   the program is crates/amdl_cli/out/amdl_cli where none is named; 'rt ci' builds it.
 
-Each run has 300 seconds, and 4 GiB of address space. Behind the program two words may stand. With 'count', and where
-valgrind is there, the instructions are counted too, of runs of at most 6 seconds. With 'clingo' the same networks are
-given to clingo (Debian's package gringo) as datalog.py writes them, and its number of facts is compared.
+Each run has 300 seconds, and 4 GiB of address space; its memory is known where Debian's package time is there. Behind
+the program two words may stand. With 'count', and where valgrind is there, the instructions are counted too, of runs of
+at most 3 seconds. With 'clingo' the same networks are given to clingo (Debian's package gringo) as datalog.py writes
+them, and its number of facts is compared.
 """
 import os
 import re
 import resource
+import signal
 import subprocess
 import sys
 import tempfile
@@ -19,40 +21,31 @@ HERE = os.path.dirname(os.path.abspath(__file__))
 TOP = os.path.dirname(os.path.dirname(HERE))
 RUNS = [("sample", 16), ("sample", 31), ("fabric", 5), ("fabric", 7), ("wide", 256), ("double", 256), ("chain", 60),
         ("queries", 6), ("queries", 8), ("queries", 12), ("constants", 8), ("constants", 16), ("constants", 64)]
-LONGEST_COUNTED = 6
+LONGEST_COUNTED = 3
+TIME = "/usr/bin/time"
 
 
 def limit():
     resource.setrlimit(resource.RLIMIT_AS, (4 << 30, 4 << 30))
 
 
-def run(words):
-    begun = time.time()
-    child = subprocess.Popen(words, stdout=subprocess.PIPE, stderr=subprocess.DEVNULL, preexec_fn=limit)
-    try:
-        text, _ = child.communicate(timeout=300)
-    except subprocess.TimeoutExpired:
-        child.kill()
-        child.wait()
-        return None
-    usage = resource.getrusage(resource.RUSAGE_CHILDREN)
-    return text.decode(), time.time() - begun, usage.ru_maxrss // 1024
-
-
 def measured(words):
-    """One run in a process of its own, so that the peak of memory is its own."""
-    read, write = os.pipe()
-    child = os.fork()
-    if child == 0:
-        os.close(read)
-        with os.fdopen(write, "w") as pipe:
-            pipe.write(repr(run(words)))
-        os._exit(0)
-    os.close(write)
-    with os.fdopen(read) as pipe:
-        answer = eval(pipe.read())
-    os.waitpid(child, 0)
-    return answer
+    """The output, the seconds and the MiB of one run; None where it takes too long."""
+    with tempfile.NamedTemporaryFile("r") as peak:
+        # The process that is forked from this one would count with this one's memory, so that of another is asked for.
+        timed = [TIME, "-f", "%M", "-o", peak.name] if os.access(TIME, os.X_OK) else []
+        begun = time.time()
+        child = subprocess.Popen(timed + words, stdout=subprocess.PIPE, stderr=subprocess.DEVNULL, preexec_fn=limit,
+                                 start_new_session=True)
+        try:
+            text, _ = child.communicate(timeout=300)
+        except subprocess.TimeoutExpired:
+            os.killpg(child.pid, signal.SIGKILL)
+            child.wait()
+            return None
+        seconds = time.time() - begun
+        kilobytes = (peak.read().split() or [""])[-1]
+    return text.decode(), seconds, "%d" % (int(kilobytes) // 1024) if kilobytes.isdigit() else ""
 
 
 def instructions(words):
@@ -77,7 +70,7 @@ def ours(program, path, counted):
         return "| over 300 | |" + (" |" if counted else ""), None
     text, seconds, mebibytes = answer
     facts = re.search(r"out (\d+) state (\d+) abort (\d+)", text)
-    cells = "| %.2f | %d |" % (seconds, mebibytes)
+    cells = "| %.2f | %s |" % (seconds, mebibytes)
     if counted:
         cells += " %s |" % (instructions(words) if seconds <= LONGEST_COUNTED else "")
     return cells, sum(map(int, facts.groups())) if facts else None
@@ -90,7 +83,7 @@ def clingo(path, facts):
         return " over 300 s or 4 GiB | |"
     text, seconds, mebibytes = answer
     found = sum(word.startswith(("out(", "state(")) for word in text.split())
-    return " %.2f | %d |%s" % (seconds, mebibytes, "" if facts in (None, found) else " but %d facts" % found)
+    return " %.2f | %s |%s" % (seconds, mebibytes, "" if facts in (None, found) else " but %d facts" % found)
 
 
 def main():
