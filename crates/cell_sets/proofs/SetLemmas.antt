@@ -1,6 +1,6 @@
 -- What the fields of a bit set say of its marks.
 use Rattle.std.proofs.Common.{◌≡◌, ℕ, ◌+◌, ◌-◌, ◌/◌, ◌<◌, ◌≤◌, Bool, true, false, cond, List, length, get_or, set}
-use Rattle.std.proofs.Common.{replicate, sym, ap, subst, ◌∙◌, arith}
+use Rattle.std.proofs.Common.{replicate, sym, ap, subst, ◌∙◌, arith, Option, Some, None, MatchOption}
 use Rattle.std.proofs.lemmas.List.Folds.{sum_by-replicate}
 use Rattle.cell_sets.specs.Marks.{HasCell, HasNoneFrom, members_in}
 use Rattle.cell_sets.specs.Words.{is_marked, marks_of, HasNoMark}
@@ -18,21 +18,22 @@ module _ (words : List ℕ) (cells : ℕ) (marks : List Bool) (view : marks_of w
   pub none_marked : (from to : ℕ) → to ≤ length marks → HasNoMark words from to → HasNoneFrom marks from to
   none_marked from to small none cell low high member = cc (none cell low high, reads cell member.0, member.1)
 
-  module _ (slice : List ℕ) (same : slice ≡ words) where
-    pub next_found : (from cell : ℕ) → from ≤ cell → cell < cells → is_marked slice cell ≡ true →
-        HasNoMark slice from cell → (from ≤ cell) × HasCell marks cell × HasNoneFrom marks from cell
-    next_found from cell beyond below marked none =
-        let inside : cell < length marks = omega (arith, cells_are) in
-        let there : is_marked words cell ≡ true = ap (λ s. is_marked s cell) (sym same) ∙ marked in (
-          beyond,
-          (inside, sym (reads cell inside) ∙ there),
-          none_marked from cell (omega arith) (subst (λ s. HasNoMark s from cell) same none),
-        )
-
-    pub none_found : (from to : ℕ) → cells ≤ to → HasNoMark slice from to → HasNoneFrom marks from (length marks)
-    none_found from to far none =
-        none_marked from (length marks) (omega arith)
-        (λ cell low high. subst (λ s. is_marked s cell ≡ false) same (none cell low (omega (arith, cells_are))))
+  -- what is found in the words is found in the set
+  pub next_in_set : (slice : List ℕ) → slice ≡ words → (from to : ℕ) → to ≤ length marks → (found : Option ℕ) →
+      MatchOption found (HasNoMark slice from to)
+      (λ cell. (from ≤ cell) × (cell < to) × (is_marked slice cell ≡ true) × HasNoMark slice from cell) →
+      MatchOption found (HasNoneFrom marks from to)
+      (λ cell. (from ≤ cell) × (cell < to) × HasCell marks cell × HasNoneFrom marks from cell)
+  next_in_set slice same from to small None none =
+      none_marked from to small (subst (λ s. HasNoMark s from to) same none)
+  next_in_set slice same from to small (Some cell) found =
+      let inside : cell < length marks = omega (arith, found.1, small) in
+      let there : is_marked words cell ≡ true = ap (λ s. is_marked s cell) (sym same) ∙ found.2 in (
+        found.0,
+        found.1,
+        (inside, sym (reads cell inside) ∙ there),
+        none_marked from cell (omega (arith, inside)) (subst (λ s. HasNoMark s from cell) same found.3),
+      )
 
   pub in_words : (cell : ℕ) → cell < length marks → length words ≡ (cells + 63) / 64 → cell / 64 < length words
   in_words cell within size = word_of_cell cell cells (length words) (omega (arith, cells_are)) size
@@ -67,6 +68,15 @@ module _ (words : List ℕ) (cells : ℕ) (marks : List Bool) (view : marks_of w
         let fewer : members - 1 ≡ members_in (set marks cell false) =
         omega (arith, members_are, members_in-take_out marks cell within present) in
         fewer ∙ sym (ap members_in (written after cell false write))
+
+-- the least member below the end of the cells is the least of all
+pub next_of_all : (marks : List Bool) (from to : ℕ) (found : Option ℕ) → to ≡ length marks →
+    MatchOption found (HasNoneFrom marks from to)
+    (λ cell. (from ≤ cell) × (cell < to) × HasCell marks cell × HasNoneFrom marks from cell) →
+    MatchOption found (HasNoneFrom marks from (length marks))
+    (λ cell. (from ≤ cell) × HasCell marks cell × HasNoneFrom marks from cell)
+next_of_all marks from to None same none = subst (HasNoneFrom marks from) same none
+next_of_all marks from to (Some cell) same found = (found.0, found.2, found.3)
 
 pub no_members : (cells : ℕ) → members_in (replicate cells false) ≡ 0
 no_members cells = omega (arith, sum_by-replicate (λ mark. cond mark 1 0) cells false)

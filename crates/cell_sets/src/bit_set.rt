@@ -1,5 +1,6 @@
 // A set of one bit a cell.
-ghost use Rattle.std.specs.Prelude.{◌≡◌};
+ghost use Rattle.std.specs.Prelude.{◌≡◌, ◌<◌, ◌≤◌, length, MatchOption};
+ghost use Rattle.cell_sets.specs.Marks.{HasCell, HasNoneFrom};
 
 use crate::cell_set::CellSet;
 use crate::words::{next_mark, read_mark, write_mark};
@@ -9,7 +10,7 @@ use std::marker::Model;
 
 /// A set of cells with one bit a cell, in words of 64 bits. Contracts see it as its marks.
 ///
-/// `next_from` passes over a word without members in one step.
+/// `next_from` and `next_within` pass over a word without members in one step.
 #[derive(Debug, Drop)]
 pub struct BitSet {
     words: Vec<u64>,
@@ -28,6 +29,20 @@ impl Model for BitSet {
 
     ghost invariant = { λ set. (length set.words.items ≡ (set.cells + 63) / 64)
         × (set.members ≡ members_in (marks_of set.words.items set.cells)) };
+}
+
+impl BitSet {
+    /// The least member that is `from` or more and below `to`, where there is one.
+    ///
+    /// It passes over a word without members in one step: linear in the words from the one to the other.
+    pub fn next_within(&self, from: u32, to: u32) -> Option<u32>
+        requires { to ≤ length self.now }
+        ensures { MatchOption result
+            (HasNoneFrom self.now from to)
+            (λ cell. (from ≤ cell) × (cell < to) × HasCell self.now cell × HasNoneFrom self.now from cell) }
+    {
+        next_mark(&self.words, from, to)
+    }
 }
 
 impl CellSet for BitSet {
@@ -76,10 +91,6 @@ impl CellSet for BitSet {
     }
 
     fn next_from(&self, from: u32) -> Option<u32> {
-        let cells = self.cells as usize;
-        match next_mark(&self.words, from as usize) {
-            Some(cell) if cell < cells => Some(cell as u32),
-            _ => None,
-        }
+        self.next_within(from, self.cells)
     }
 }

@@ -1,5 +1,5 @@
 // Marks kept as the bits of words of 64.
-ghost use Rattle.std.specs.Prelude.{◌≡◌, ◌≢◌, ℕ, ◌+◌, ◌*◌, ◌/◌, ◌%◌, ◌^◌, ◌<◌, ◌≤◌, true, length, slice_set};
+ghost use Rattle.std.specs.Prelude.{◌≡◌, ◌≢◌, ℕ, ◌+◌, ◌*◌, ◌/◌, ◌%◌, ◌<◌, ◌≤◌, true, length, slice_set};
 ghost use Rattle.std.specs.Prelude.{MatchOption, if◌then◌else◌};
 ghost use Rattle.std.specs.Int.{bit_at};
 ghost use Rattle.std.specs.Vec.{vec_len};
@@ -37,19 +37,20 @@ fn with_bit(word: u64, place: u32, bit: bool) -> u64
     }
 }
 
-/// The least marked cell that is `from` or more, where there is one.
+/// The least marked cell that is `from` or more and below `to`, where there is one.
 ///
-/// It passes over a word without marks in one step.
-pub fn next_mark(words: &[u64], from: usize) -> Option<usize>
-    requires { length words.now ≤ 2 ^ 26 }
+/// It passes over a word without marks in one step, and looks at no word behind `to`.
+pub fn next_mark(words: &[u64], from: u32, to: u32) -> Option<u32>
+    requires { to ≤ 64 * length words.now }
     ensures { MatchOption result
-        (HasNoMark words.now from (64 * length words.now))
-        (λ cell. (from ≤ cell) × (is_marked words.now cell ≡ true) × HasNoMark words.now from cell) }
+        (HasNoMark words.now from to)
+        (λ cell. (from ≤ cell) × (cell < to) × (is_marked words.now cell ≡ true) × HasNoMark words.now from cell) }
 {
-    for at in from / 64..words.len() {
-        let low = from.saturating_sub(64 * at) as u32;
-        if let Some(bit) = next_bit(words[at], low) {
-            return Some(64 * at + bit as usize);
+    for at in from / 64..to.div_ceil(64) {
+        let low = from.saturating_sub(64 * at);
+        if let Some(bit) = next_bit(words[at as usize], low) {
+            let cell = 64 * at + bit;
+            return if cell < to { Some(cell) } else { None };
         }
     }
     None
