@@ -2,7 +2,7 @@
 use Rattle.std.proofs.Common.{◌≡◌, ◌≢◌, ℕ, ◌+◌, ◌*◌, ◌/◌, ◌%◌, ◌^◌, ◌<◌, ◌≤◌, Bool, true, false, List, [], ◌∷◌, ◌++◌, replicate}
 use Rattle.std.proofs.Common.{length, length-append, get_or, set, refl, sym, ap, subst, ◌∙◌, ◌⊎◌, ◌↔◌, inl, inr, arith}
 use Rattle.std.proofs.lemmas.Bool.{cases_lt, cases_eq, le-leb}
-use Rattle.std.proofs.lemmas.Nat.{div-mul-add, mod-mul-add, mul-le, pow_below}
+use Rattle.std.proofs.lemmas.Nat.{div-mul-add, mod-mul-add, mul-add-lt, mul-le, pow_below}
 use Rattle.std.proofs.lemmas.List.{get_or-set_same, get_or-set_other, get_or_append_left, get_or-replicate, length-replicate}
 use Rattle.std.proofs.lemmas.List.{get_or_read}
 use Rattle.std.proofs.Math.Seq.{get_or-append_seam}
@@ -11,7 +11,7 @@ use Rattle.cell_sets.specs.Marks.{HasCell}
 use Rattle.cell_sets.proofs.MarkLemmas.{HasCell-add}
 use Rattle.std.proofs.lemmas.List.{length-set}
 use Rattle.net_plan.specs.declared.plan.Plan.{Plan}
-use Rattle.net_plan.specs.Plan.{boxes_of}
+use Rattle.net_plan.specs.Plan.{boxes_of, packets_of}
 use Rattle.box_moves.specs.Moves.{masks_at, moves_of, moves_over, move_number, marks_at, IsKept, IsSized, IsMove, HasMove, cells_of, AreCleared}
 
 -- at most twelve queries have at most 4,096 masks
@@ -250,3 +250,20 @@ marks_gone marks cell within other less none has =
         sym (get_or-set_other marks cell other false false apart) ∙ has.1,
       )
     ]
+
+-- the row of moves from a mask at a packet lies in the set of a box that is kept
+pub row_within : (plan : Plan) (sets : List (List Bool)) (box packet mask : ℕ) (marks : List Bool) →
+    IsSized plan sets → IsKept plan box → box < boxes_of plan → packet < packets_of plan → mask < masks_at plan box →
+    marks ≡ get_or sets box marks →
+    move_number (masks_at plan box) packet mask 0 + masks_at plan box ≤ length marks
+row_within plan sets box packet mask marks sized kept boxed packet_in mask_in is =
+    let masks : ℕ = masks_at plan box in
+    let row : packet * masks + mask < masks * packets_of plan =
+    mul-add-lt packet masks mask (packets_of plan) packet_in mask_in in
+    let rows : (packet * masks + mask + 1) * masks ≤ packets_of plan * masks * masks =
+    mul-le (packet * masks + mask + 1) masks (packets_of plan * masks) masks (grind (arith, row)) (omega arith) in
+    let stood : marks ≡ marks_at sets box =
+    get_or_read sets box marks (subst (λ (n : ℕ). box < n) (sym sized.boxes) boxed) is [] in
+    let cells : length marks ≡ moves_of plan box =
+    ap length stood ∙ sized.cells box boxed ∙ kept_cells plan box kept in
+    grind (arith, rows, cells)

@@ -81,7 +81,8 @@ impl Moves {
     }
 
     /// The least mask that is `from` or more to which a move from this mask was noted, where there is one. Linear in
-    /// the distance to it, or to the last mask; no memory.
+    /// the masks that are passed over divided by 64, at least one word; no memory. With n queries the moves from a mask
+    /// at a packet are 2^n bits and begin at a multiple of 2^n, so with up to 6 queries no second word is looked at.
     pub fn next(&self, net: &Network, b: u32, packet: u32, mask: u16, from: u16) -> Option<u16>
         requires sized { IsSized net.now self.now }
         requires kept { IsKept net.now b }
@@ -93,12 +94,10 @@ impl Moves {
             (λ other. (from ≤ other) × HasMove net.now self.now b packet mask other
             × HasNoMoveFrom net.now self.now b packet mask from other) }
     {
-        for other in from..masks_of(net, b) as u16 {
-            if self.has(net, b, packet, mask, other) {
-                return Some(other);
-            }
-        }
-        None
+        let first = number_of(net, b, packet, mask, 0);
+        let end = first + masks_of(net, b);
+        let found = self.sets[b as usize].next_within(first + u32::from(from), end)?;
+        Some((found - first) as u16)
     }
 }
 
