@@ -31,6 +31,15 @@ with_bit tuple tuples mask entry = by (nat_eq (mask % 2) 1) refl
     by true e = rw e refl
     by false e = rw e refl
 
+-- nothing is marked by the mask 0
+pub none_in : (tuples : List Entry) (mask : ℕ) (entry : Entry) → mask ≡ 0 →
+    false ≡ holds_entry (marked tuples mask) entry
+none_in tuples mask entry none = sym (ap (λ (m : ℕ). holds_entry (marked tuples m) entry) none ∙ empty tuples)
+  where
+    empty : (some : List Entry) → holds_entry (marked some 0) entry ≡ false
+    empty [] = refl
+    empty (tuple ∷ some) = empty some
+
 or_left : (a b : Bool) → a ≡ true → (a || b) ≡ true
 or_left true b e = refl
 or_left false b e = absurd (let wrong : ◌≡◌ {A = Bool} false true = e in cc)
@@ -64,6 +73,9 @@ module _ (tuples : List Entry) (entry : Entry) where
   has_not whole found i rest tuple inside here so_far is failed =
       so_far ∙ step i rest tuple inside here
       ∙ or_right (nat_eq (rest % 2) 1 && same_entry entry tuple) (held_from (i + 1) (rest / 2)) (sym is ∙ failed)
+
+  pub has_no_more : (whole : Bool) (i rest : ℕ) → rest ≡ 0 → whole ≡ held_from i rest → false ≡ whole
+  has_no_more whole i rest none so_far = none_in (drop i tuples) rest entry none ∙ sym so_far
 
   pub has_none : (whole : Bool) (i rest : ℕ) → length tuples ≤ i → whole ≡ held_from i rest → false ≡ whole
   has_none whole i rest all so_far =
@@ -232,6 +244,49 @@ module _ (held : HeldIsMember) where
         same_low true one two = omega arith
         same_low false one two = omega arith
 
+-- the tuples with bit 1 from one place on are among all of them
+module _ (held : HeldIsMember) (tuples : List Entry) (mask : ℕ) where
+  abbrev pub AreAmong : ℕ → ℕ → Type 0
+  AreAmong i rest =
+      (entry : Entry) → holds_entry (marked (drop i tuples) rest) entry ≡ true →
+      holds_entry (marked tuples mask) entry ≡ true
+
+  from_next : (i rest : ℕ) (tuple : Entry) → i < length tuples → tuple ≡ get_or tuples i tuple → (entry : Entry) →
+      holds_entry (marked (drop i tuples) rest) entry
+      ≡ ((nat_eq (rest % 2) 1 && same_entry entry tuple) || holds_entry (marked (drop (i + 1) tuples) (rest / 2)) entry)
+  from_next i rest tuple inside here entry = step tuples entry i rest tuple inside here
+
+  either : (a b : Bool) → b ≡ true → (a || b) ≡ true
+  either true b e = refl
+  either false b e = e
+
+  pub among_next : (i rest : ℕ) (tuple : Entry) → i < length tuples → tuple ≡ get_or tuples i tuple →
+      AreAmong i rest → AreAmong (i + 1) (rest / 2)
+  among_next i rest tuple inside here among entry there =
+      among entry (from_next i rest tuple inside here entry
+      ∙ either (nat_eq (rest % 2) 1 && same_entry entry tuple)
+      (holds_entry (marked (drop (i + 1) tuples) (rest / 2)) entry) there)
+
+  -- a tuple with bit 1 is among them
+  pub one_marked : (i rest : ℕ) (tuple : Entry) → i < length tuples → tuple ≡ get_or tuples i tuple →
+      AreAmong i rest → (rest % 2 ≡ 0 → ⊥) → holds_entry (marked tuples mask) tuple ≡ nat_eq (rest % 2) 1
+  one_marked i rest tuple inside here among odd =
+      let one : rest % 2 ≡ 1 = odd_is (rest % 2) (omega arith) odd in
+      let bit : nat_eq (rest % 2) 1 ≡ true = ap (λ (n : ℕ). nat_eq n 1) one in
+      let both : (nat_eq (rest % 2) 1 && same_entry tuple tuple) ≡ true =
+      ap (λ (b : Bool). b && same_entry tuple tuple) bit ∙ itself held tuple in
+      among tuple (from_next i rest tuple inside here tuple
+      ∙ or_left (nat_eq (rest % 2) 1 && same_entry tuple tuple)
+      (holds_entry (marked (drop (i + 1) tuples) (rest / 2)) tuple) both) ∙ sym bit
+    where
+      odd_is : (n : ℕ) → n < 2 → (n ≡ 0 → ⊥) → n ≡ 1
+      odd_is zero less odd = absurd (odd refl)
+      odd_is (suc zero) less odd = refl
+      odd_is (suc (suc n)) less odd = absurd (omega (arith, less))
+
+pub none_marked : (held : Bool) (rest : ℕ) → rest % 2 ≡ 0 → held ≡ false → held ≡ nat_eq (rest % 2) 1
+none_marked held rest even none = none ∙ sym (ap (λ (n : ℕ). nat_eq n 1) even)
+
 -- one tuple of a check of all
 module _ (h : Entry → Bool) (tuples : List Entry) where
   abbrev pub told_from : ℕ → ℕ → Type 0
@@ -270,3 +325,35 @@ module _ (h : Entry → Bool) (tuples : List Entry) where
       let count : length tuples - i ≡ suc (length tuples - (i + 1)) = omega (arith, inside) in
       let wide : rest < 2 ^ suc (length tuples - (i + 1)) = subst (λ (n : ℕ). rest < 2 ^ n) count less in
       omega (arith, wide, pow-suc 2 (length tuples - (i + 1)))
+
+-- what a check of all keeps
+module _ (held : HeldIsMember) (tuples : List Entry) (mask : ℕ) where
+  abbrev pub IsChecked : ℕ → ℕ → Type 0
+  IsChecked i rest =
+      (rest < 2 ^ (length tuples - i))
+      × ((mask_of (map (holds_entry (marked tuples mask)) tuples) ≡ mask)
+      ↔ told_from (holds_entry (marked tuples mask)) tuples i rest)
+      × AreAmong held tuples mask i rest
+
+  pub check_next : (i rest : ℕ) (tuple : Entry) → i < length tuples → tuple ≡ get_or tuples i tuple →
+      holds_entry (marked tuples mask) tuple ≡ nat_eq (rest % 2) 1 → IsChecked i rest → IsChecked (i + 1) (rest / 2)
+  check_next i rest tuple inside here low checked =
+      let h = holds_entry (marked tuples mask) in
+      let next = told_next h tuples i rest tuple inside here low in (
+        rest_less h tuples i rest inside checked.0,
+        (λ whole. next.0 (checked.1.0 whole), λ rest. checked.1.1 (next.1 rest)),
+        among_next held tuples mask i rest tuple inside here checked.2,
+      )
+
+  pub check_marked : (i rest : ℕ) → i < length tuples → (rest % 2 ≡ 0 → ⊥) → IsChecked i rest →
+      IsChecked (i + 1) (rest / 2)
+  check_marked i rest inside odd checked =
+      let tuple : Entry = get_or tuples i (record { relation = 0; tuple = 0 }) in
+      let here : tuple ≡ get_or tuples i tuple = there tuples i (record { relation = 0; tuple = 0 }) inside in
+      check_next i rest tuple inside here (one_marked held tuples mask i rest tuple inside here checked.2 odd) checked
+    where
+      there : (some : List Entry) (k : ℕ) (other : Entry) → k < length some →
+          get_or some k other ≡ get_or some k (get_or some k other)
+      there [] k other less = absurd (omega (arith, less))
+      there (one ∷ some) zero other less = refl
+      there (one ∷ some) (suc k) other less = there some k other (omega (arith, less))

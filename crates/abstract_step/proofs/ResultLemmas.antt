@@ -27,7 +27,7 @@ use Rattle.box_executions.proofs.RangeLemmas.{entry_is_tuple}
 use Rattle.box_executions.proofs.KeepLemmas.{with_fits}
 use Rattle.net_plan.specs.declared.plan.Plan.{Plan}
 use Rattle.net_plan.specs.declared.plan.ClassPlan.{ClassPlan}
-use Rattle.net_plan.specs.Plan.{packets_of, boxes_of, box_at, ports_of, surroundings_of}
+use Rattle.net_plan.specs.Plan.{sizes_of, packets_of, boxes_of, box_at, ports_of, surroundings_of}
 use Rattle.net_plan.specs.Reading.{tuple_at}
 use Rattle.net_plan.specs.Sound.{IsSound, IsHandled, IsSmallClass}
 use Rattle.net_plan.proofs.Rising.{head_contained, tail_contained, contained_cases, none_contained}
@@ -405,16 +405,18 @@ module _ (laws : AreLaws) (place : Place) (sound : IsSound place.net.now) (port 
   abbrev first_spot : Spot
   first_spot = record { depth = 0; top = 0; writes = 0; puts = 0; mask = mask }
 
-  pub can_walk : (trail : Trail) → HasLists trail → (found : Found) → IsSpacious found → vec_len found.endings ≡ 0 →
+  pub can_walk : place.fields.now ≡ fields_of (sizes_of place.net.now) place.p → (trail : Trail) → HasLists trail →
+      (found : Found) → IsSpacious found → vec_len found.endings ≡ 0 →
       vec_len found.writes ≡ 0 → vec_len found.puts ≡ 0 → (acts : List Act) → acts ≡ whole →
       CanWalk place trail first_spot found (body_of acts)
-  can_walk trail lists found spacious endings writes puts acts is =
+  can_walk fields trail lists found spacious endings writes puts acts is =
       let size = small laws place.net.now sound place.b port place.p mask boxed ported inside in
       subst (λ (a : List Act). CanWalk place trail first_spot found (body_of a)) (sym is) (record {
         stands = record {
           place_is = record {
             boxed = boxed;
             packet = inside;
+            fields = fields;
             few = few_at place.tuples.now read;
           };
           frames = lists.frames;

@@ -13,7 +13,7 @@ use Rattle.box_handlers.specs.declared.act.Branch.{Branch}
 use Rattle.box_handlers.specs.declared.act.Query.{Query}
 use Rattle.box_handlers.specs.declared.act.Change.{Change}
 use Rattle.box_handlers.specs.Body.{Body, Branches, OneBranch, Writes, Emit, Halt, Fork, Each, body_of, branches_of}
-use Rattle.box_handlers.specs.Body.{formula_of}
+use Rattle.box_handlers.specs.Body.{Stop, formula_of}
 use Rattle.box_masks.specs.declared.write.Write.{Write}
 use Rattle.abstract_step.specs.declared.put.Put.{Put}
 use Rattle.box_handlers.specs.Fits.{Surroundings, ArePicked, Fits, FormulaFits, BranchesFit}
@@ -556,3 +556,46 @@ module _ (place : Place) (trail : Trail) (spot : Spot) (frame : Frame) (frames :
         (gains_more found mid new
         (chosen branches place.tuples.now (scene_at place (picked_at trail spot)) rest_at (so_far trail spot))
         (rest_at (so_far trail spot)) (subst (λ xs. Gains found mid xs) (chosen_same branches) gains) more)
+
+-- nothing is left
+pub none_left : {X : Type 0} (xs : List X) → length xs ≡ 0 → xs ≡ []
+none_left [] none = refl
+none_left (x ∷ xs) none = absurd (omega (arith, none))
+
+-- a choice at the end of a block
+module _ (place : Place) (trail : Trail) (spot : Spot) (branches : Branches) where
+  abbrev pub is_taken : Bool
+  is_taken = any_holds (scene_at place (picked_at trail spot)) (marked place.tuples.now spot.mask) branches
+
+  abbrev pub behind_now : List Result
+  behind_now = behind_at place trail spot (so_far trail spot)
+
+  last_is : paths_at place trail spot (Fork branches Stop)
+      ≡ chosen_at place trail spot branches ++ where_false is_taken behind_now
+  last_is = refl
+
+  pub last_room : (found : Found) → CanWalk place trail spot found (Fork branches Stop) →
+      HasRoom found (chosen_at place trail spot branches)
+  last_room found can =
+      room_first found (chosen_at place trail spot branches) (where_false is_taken behind_now)
+      (subst (λ xs. HasRoom found xs) last_is can.room)
+
+  pub last_rest : (found mid : Found) → CanWalk place trail spot found (Fork branches Stop) →
+      Gains found mid (chosen_at place trail spot branches) → is_taken ≡ false → HasRoom mid behind_now
+  last_rest found mid can gains none =
+      room_rest found mid (chosen_at place trail spot branches) behind_now
+      (subst (λ xs. HasRoom found xs)
+      (last_is ∙ where_not is_taken (chosen_at place trail spot branches) behind_now none) can.room) gains
+
+  pub last_taken : (found mid : Found) → Gains found mid (chosen_at place trail spot branches) → is_taken ≡ true →
+      Gains found mid (paths_at place trail spot (Fork branches Stop))
+  last_taken found mid gains some =
+      subst (λ xs. Gains found mid xs)
+      (sym (last_is ∙ where_taken is_taken (chosen_at place trail spot branches) behind_now some)) gains
+
+  pub last_not : (found mid new : Found) → Gains found mid (chosen_at place trail spot branches) →
+      Gains mid new behind_now → is_taken ≡ false → Gains found new (paths_at place trail spot (Fork branches Stop))
+  last_not found mid new gains more none =
+      subst (λ xs. Gains found new xs)
+      (sym (last_is ∙ where_not is_taken (chosen_at place trail spot branches) behind_now none))
+      (gains_more found mid new (chosen_at place trail spot branches) behind_now gains more)

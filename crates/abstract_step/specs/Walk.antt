@@ -4,11 +4,14 @@ use Rattle.std.specs.Prelude.{take, slice_get, sum_by}
 use Rattle.std.specs.List.{flat_map, range_with_len}
 use Rattle.std.specs.Vec.{vec_len, vec_capacity}
 use Rattle.box_handlers.specs.declared.act.Branch.{Branch}
+use Rattle.box_handlers.specs.declared.act.Term.{Term}
+use Rattle.box_handlers.specs.declared.act.Term.TheVariants.{Field, Value, Picked}
+use Rattle.box_executions.specs.Environment.{fields_of}
 use Rattle.box_handlers.specs.Body.{Formula, Body, Branches, body_of, formula_of}
 use Rattle.box_handlers.specs.Fits.{ArePicked, Fits, FormulaFits, BranchesFit}
 use Rattle.box_handlers.specs.Size.{statements_of}
 use Rattle.net_plan.specs.declared.plan.ClassPlan.{ClassPlan}
-use Rattle.net_plan.specs.Plan.{packets_of, boxes_of, surroundings_of}
+use Rattle.net_plan.specs.Plan.{sizes_of, packets_of, boxes_of, surroundings_of}
 use Rattle.net_runs.specs.World.{environment_of}
 use Rattle.packet_state.specs.Answers.{class_of_box}
 use Rattle.handler_runs.specs.Reading.{Scene, scene_of, with_value, holds_by}
@@ -30,11 +33,18 @@ abbrev pub scene_at : Place → List ℕ → Scene
 scene_at place picked =
     scene_of (record (environment_of place.net.now (class_at place) place.p) { picked = picked })
 
--- the numbers of the place are in range
+-- the numbers of the place are in range, and its fields are those of the packet
 pub record IsPlace (place : Place) : Type 0 where
   pub boxed : place.b < boxes_of place.net.now
   pub packet : place.p < packets_of place.net.now
+  pub fields : place.fields.now ≡ fields_of (sizes_of place.net.now) place.p
   pub few : length place.tuples.now ≤ 12
+
+-- the term is of a type with so many values, as far as the sizes of the fields show
+abbrev pub HasSize : List ℕ → ℕ → Term → Type 0
+HasSize sizes size (Field k) = slice_get sizes k ≡ Some size
+HasSize sizes size (Value x) = Unit {0}
+HasSize sizes size (Picked i) = Unit {0}
 
 -- what fits the box while the picks have these values
 abbrev pub FormulaFitsAt : Place → List ℕ → Formula → Type 0

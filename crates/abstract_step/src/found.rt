@@ -1,4 +1,5 @@
-ghost use Rattle.std.specs.Prelude.{[], ◌∷◌, false};
+ghost use Rattle.std.specs.Prelude.{◌≡◌, ◌≤◌, ◌+◌, [], ◌∷◌, ◌++◌, false, length};
+ghost use Rattle.std.specs.Vec.{vec_len, vec_capacity};
 ghost use Rattle.abstract_step.specs.Paths.{aborted};
 ghost use Rattle.abstract_step.specs.Walk.{HasRoom, Gains};
 
@@ -46,8 +47,8 @@ pub(crate) fn add_ending(found: &mut Found, writes: &[Write], puts: &[Put])
 {
     let writes_from = found.writes.len();
     let puts_from = found.puts.len();
-    let _ = found.writes.extend_from_slice(writes);
-    let _ = found.puts.extend_from_slice(puts);
+    add_all(&mut found.writes, writes);
+    add_all(&mut found.puts, puts);
     found.endings.push_reserved(Ending {
         aborted: false,
         writes_from,
@@ -55,4 +56,15 @@ pub(crate) fn add_ending(found: &mut Found, writes: &[Write], puts: &[Put])
         puts_from,
         puts_to: puts_from + puts.len(),
     });
+}
+
+// More items at the end, of which there are often none.
+fn add_all<T: Copy>(items: &mut Vec<T>, more: &[T])
+    requires { vec_len items.old + length more.now ≤ vec_capacity items.old }
+    ensures items { items.new.items ≡ items.old.items ++ more.now }
+    ensures room { vec_capacity items.old ≤ vec_capacity items.new }
+{
+    if !more.is_empty() {
+        let _ = items.extend_from_slice(more);
+    }
 }

@@ -4,7 +4,7 @@ ghost use Rattle.box_contents.specs.Contents.{holds_entry, same_entry};
 ghost use Rattle.packet_state.specs.Answers.{mask_of};
 ghost use Rattle.abstract_step.specs.Masks.{marked, mask_after, bit_after};
 
-use box_contents::Entry;
+use box_contents::{Entry, held_is_member};
 
 // Whether two entries are one.
 fn is_same(one: Entry, two: Entry) -> bool
@@ -20,13 +20,16 @@ fn is_marked(mask: u16, entry: Entry, tuple: Entry) -> bool
     mask % 2 == 1 && is_same(entry, tuple)
 }
 
-/// Whether a tuple with bit 1 is the entry.
-#[tactic(auto, using(crate::proofs::MaskLemmas::has_found, crate::proofs::MaskLemmas::has_not, crate::proofs::MaskLemmas::has_none))]
+/// Whether a tuple with bit 1 is the entry. It looks at no tuple behind the last one with bit 1.
+#[tactic(auto, using(crate::proofs::MaskLemmas::has_found, crate::proofs::MaskLemmas::has_not, crate::proofs::MaskLemmas::has_none, crate::proofs::MaskLemmas::has_no_more))]
 pub(crate) fn has(tuples: &[Entry], mask: u16, entry: Entry) -> bool
     ensures { result ≡ holds_entry (marked tuples.now mask) entry }
 {
     let mut rest = mask;
     for tuple in tuples {
+        if rest == 0 {
+            return false;
+        }
         if is_marked(rest, entry, *tuple) {
             return true;
         }
@@ -62,16 +65,16 @@ pub(crate) fn written(tuples: &[Entry], mask: u16, entry: Entry, add: bool) -> u
     }
 }
 
-/// Whether some contents answer with the mask: no tuple has bit 0 where it stands elsewhere with bit 1. Quadratic in
-/// the tuples.
+/// Whether some contents answer with the mask: no tuple has bit 0 where it stands elsewhere with bit 1. Each tuple with
+/// bit 0 is looked for among all.
 pub(crate) fn is_consistent(tuples: &[Entry], mask: u16) -> bool
     requires { mask < 2 ^ length tuples.now }
     ensures { IsTrue result ↔ (mask_of (map (holds_entry (marked tuples.now mask)) tuples.now) ≡ mask) }
 {
+    held_is_member();
     let mut rest = mask;
     for tuple in tuples {
-        let bit = rest % 2 == 1;
-        if has(tuples, mask, *tuple) != bit {
+        if rest % 2 == 0 && has(tuples, mask, *tuple) {
             return false;
         }
         rest /= 2;

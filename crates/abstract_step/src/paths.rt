@@ -2,16 +2,16 @@ ghost use Rattle.std.specs.Prelude.{◌≡◌, ℕ, ◌+◌, ◌<◌, ◌≤◌,
 ghost use Rattle.std.specs.Vec.{vec_capacity};
 ghost use Rattle.net_plan.specs.Plan.{packets_of, boxes_of, box_at, ports_of};
 ghost use Rattle.net_plan.specs.Reading.{tuple_at};
-ghost use Rattle.packet_state.specs.Answers.{class_of_box};
 ghost use Rattle.box_masks.specs.Writes.{IsMaskOf};
 ghost use Rattle.abstract_step.specs.Found.{results_of};
 ghost use Rattle.abstract_step.specs.Fire.{IsSpacious, HasLists, AreLaws};
 ghost use Rattle.abstract_step.specs.Step.{AreResults};
+ghost use Rattle.abstract_step.specs.Walk.{IsPlace, class_at};
 
 use crate::fired::Fired;
 use crate::found::Found;
 use crate::masks::is_consistent;
-use crate::place::Place;
+use crate::place::{Place, entry_of, read_fields};
 use crate::put::Put;
 use crate::trail::{Frame, Spot, Trail};
 use crate::walk::block;
@@ -22,6 +22,7 @@ use box_contents::{
 use box_executions::outcome_is_in_range;
 use box_handlers::{filled_has_same_tuple, queries_fit, queries_hold_all_asked};
 use box_masks::Write;
+use header_set::MOST_FIELDS;
 use header_set::laws::{fields_are_below_sizes, fields_determine_packet};
 use net_plan::Network;
 use std::alloc::Global;
@@ -149,17 +150,16 @@ fn no_trail<'a>(alloc: Global) -> Result<Trail<'a>, NoMemory>
 
 // The tuples of the queries of a box at a packet.
 #[tactic(auto, using(crate::proofs::MemberLemmas::mapped_more, crate::proofs::MemberLemmas::mapped_all))]
-fn read_tuples(net: &Network, b: u32, p: u32, tuples: &mut Vec<Entry>)
-    requires boxed { b < boxes_of net.now }
-    requires packet { p < packets_of net.now }
+fn read_tuples(place: &Place<'_>, tuples: &mut Vec<Entry>)
+    requires place { IsPlace place.now }
     requires room { 12 ≤ vec_capacity tuples.old }
     ensures tuples { tuples.new.items
-        ≡ map (tuple_at net.now (class_of_box net.now b) p []) (class_of_box net.now b).queries }
+        ≡ map (tuple_at place.now.net.now (class_at place.now) place.now.p []) (class_at place.now).queries }
     ensures room { vec_capacity tuples.old ≤ vec_capacity tuples.new }
 {
     tuples.clear();
-    for query in net.queries(b) {
-        tuples.push_reserved(net.tuple_at(b, query, p, &[]));
+    for query in place.net.queries(place.b) {
+        tuples.push_reserved(entry_of(place, &[], query));
     }
 }
 
@@ -191,12 +191,22 @@ pub(crate) fn fire_now<'a>(
     found.endings.clear();
     found.writes.clear();
     found.puts.clear();
-    read_tuples(net, b, p, tuples);
+    let mut numbers = [0; MOST_FIELDS];
+    let fields = &mut numbers[..net.headers().fields()];
+    read_fields(net.headers(), p, fields);
+    let place = Place {
+        net,
+        b,
+        p,
+        fields,
+        tuples: &[],
+    };
+    read_tuples(&place, tuples);
     let tuples = tuples.as_slice();
     if !is_consistent(tuples, v) {
         return;
     }
-    let place = Place { net, b, p, tuples };
+    let place = Place { tuples, ..place };
     let spot = Spot {
         depth: 0,
         top: 0,

@@ -1,6 +1,6 @@
 //! The walk through a handler, path by path.
 ghost use Rattle.std.specs.Prelude.{◌≡◌, ◌≤◌, [], ◌∷◌, ◌++◌, length};
-ghost use Rattle.box_handlers.specs.Body.{Writes, Emit, Fork, Each, body_of, branches_of, formula_of};
+ghost use Rattle.box_handlers.specs.Body.{Stop, Writes, Emit, Fork, Each, body_of, branches_of, formula_of};
 ghost use Rattle.box_handlers.specs.Size.{statements_of, statements_of_branches};
 ghost use Rattle.handler_runs.specs.Reading.{holds_by, any_holds};
 ghost use Rattle.abstract_step.specs.Masks.{marked};
@@ -162,6 +162,10 @@ fn choice<'a>(
     ensures gains { Gains found.old found.new
         (paths_at place.now trail.old spot.now (Fork (branches_of branches.now) (body_of more.now))) }
 {
+    if more.is_empty() {
+        last_choice(place, branches, spot, trail, found);
+        return;
+    }
     let frame = Frame {
         acts: more,
         depth: spot.depth,
@@ -175,6 +179,26 @@ fn choice<'a>(
     trail.frames.replace(spot.top, kept);
     if !taken {
         block(place, more, spot, trail, found);
+    }
+}
+
+// A choice at the end of a block, which needs no frame.
+#[cycle(walk)]
+fn last_choice<'a>(
+    place: &Place<'_>,
+    branches: &'a [Branch],
+    spot: &Spot,
+    trail: &mut Trail<'a>,
+    found: &mut Found,
+)
+    requires { CanWalk place.now trail.old spot.now found.old (Fork (branches_of branches.now) Stop) }
+    ensures same { trail.new ≡ trail.old }
+    ensures gains { Gains found.old found.new
+        (paths_at place.now trail.old spot.now (Fork (branches_of branches.now) Stop)) }
+{
+    let taken = alternatives(place, branches, spot, trail, found);
+    if !taken {
+        go_on(place, spot, trail, found);
     }
 }
 

@@ -1,8 +1,12 @@
-use Rattle.std.proofs.Common.{rules, arith, ap, ◌∙◌}
+use Rattle.std.proofs.Common.{rules, arith, ◌≡◌, ℕ, nat_eq, not, ap, sym, ◌∙◌}
 use Rattle.box_handlers.specs.Body.{formula_of_probe}
 use Rattle.box_handlers.proofs.BodyLemmas.{formulas_read}
 use Rattle.abstract_step.proofs.GuardLemmas.{probe_fits, list_fits, formula_same, deny_fits, probe_less, list_less}
 use Rattle.abstract_step.proofs.GuardLemmas.{deny_less, group_less}
+use Rattle.handler_runs.specs.Reading.{entry_by, holds_by}
+use Rattle.abstract_step.specs.Masks.{marked}
+use Rattle.abstract_step.specs.Walk.{scene_at}
+use Rattle.abstract_step.proofs.MaskLemmas.{none_in}
 use Rattle.abstract_step.proofs.guards.+tests.Goals as goal
 
 pub all_hold-probe_holds-requires : goal.all_hold-probe_holds-requires
@@ -33,6 +37,15 @@ pub probe_holds-entry_of-requires-clause-fits : goal.probe_holds-entry_of-requir
 probe_holds-entry_of-requires-clause-fits t c =
     formula_same c.args.place.now c.args.picked.now _ _
     (ap formula_of_probe c.in-Has.is ∙ formulas_read.has c.in-Has.query) c.requires.fits
+
+pub probe_holds-returns-else-mask-ne0 : goal.probe_holds-returns-else-mask-ne0
+probe_holds-returns-else-mask-ne0 t c =
+    let scene = scene_at c.args.place.now c.args.picked.now in
+    let none : c.args.mask ≡ 0 = search rules in
+    ap (λ (mask : ℕ). not (nat_eq mask 0)) none
+    ∙ none_in c.args.place.now.tuples.now c.args.mask (entry_by scene c.in-Has.query) none
+    ∙ sym (ap (holds_by scene (marked c.args.place.now.tuples.now c.args.mask))
+    (ap formula_of_probe c.in-Has.is ∙ formulas_read.has c.in-Has.query))
 
 pub probe_holds-denied-requires : goal.probe_holds-denied-requires
 probe_holds-denied-requires t c =

@@ -1,19 +1,18 @@
 use Rattle.std.proofs.Common.{rules, sym, ◌∙◌}
-use Rattle.box_contents.specs.Contents.{holds_entry}
-use Rattle.abstract_step.specs.Masks.{marked}
-use Rattle.abstract_step.proofs.MaskLemmas.{told_next, rest_less}
+use Rattle.abstract_step.proofs.MaskLemmas.{check_next, check_marked, none_marked}
 use Rattle.abstract_step.proofs.masks.is_consistent.Goals as goal
+use Rattle.abstract_step.proofs.masks.is_consistent.Goals.{else-rest-eq0-via-then-rest-eq0+else-has}
+use Rattle.abstract_step.proofs.masks.is_consistent.Goals.{else-rest-eq0-via-else-rest-eq0}
 
 pub loop-tuple-preserved : goal.loop-tuple-preserved
 loop-tuple-preserved c =
-    let h = holds_entry (marked c.args.tuples.now c.args.mask) in
-    let next =
-    told_next h c.args.tuples.now c.loop-tuple.tuple-index c.loop-tuple.rest _ c.loop-tuple-test.true (search rules)
-    (sym c.has.ensures ∙ search rules) in (
-      rest_less h c.args.tuples.now c.loop-tuple.tuple-index c.loop-tuple.rest c.loop-tuple-test.true
-          c.loop-tuple.invariant.0,
-      (
-        λ whole. next.0 (c.loop-tuple.invariant.1.0 whole),
-        λ rest. c.loop-tuple.invariant.1.1 (next.1 rest),
-      ),
-    )
+    elim c.else-rest-eq0.branch [
+      | else-rest-eq0-via-then-rest-eq0+else-has w ↦
+          check_next c.held_is_member.ensures c.args.tuples.now c.args.mask c.loop-tuple.tuple-index c.loop-tuple.rest _
+          c.loop-tuple-test.true (search rules)
+          (sym w.has.ensures ∙ none_marked w.has.result c.loop-tuple.rest (search rules) (search rules))
+          c.loop-tuple.invariant
+      | else-rest-eq0-via-else-rest-eq0 w ↦
+          check_marked c.held_is_member.ensures c.args.tuples.now c.args.mask c.loop-tuple.tuple-index c.loop-tuple.rest
+          c.loop-tuple-test.true (search rules) c.loop-tuple.invariant
+    ]

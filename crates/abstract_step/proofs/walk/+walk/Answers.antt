@@ -2,14 +2,15 @@ use Rattle.std.proofs.Common.{rules, arith, ◌≡◌, ℕ, ◌+◌, ◌-◌, �
 use Rattle.std.proofs.Common.{ap, subst, ◌∙◌, Some}
 use Rattle.std.proofs.lemmas.List.{length-set}
 use Rattle.std.proofs.lemmas.Option.{slice_get-get_or}
-use Rattle.box_handlers.specs.Body.{body_of, branches_of, formula_of}
+use Rattle.box_handlers.specs.declared.act.Act.{Act}
+use Rattle.box_handlers.specs.Body.{Fork, body_of, branches_of, formula_of}
 use Rattle.box_handlers.specs.Size.{statements_of, statements_of_branches}
 use Rattle.abstract_step.specs.declared.trail.Frame.{Frame}
 use Rattle.abstract_step.specs.declared.trail.Trail.{Trail}
 use Rattle.abstract_step.specs.Walk.{Stands, StandsWithin, FitsAt, FormulaFitsAt, HasRoom, Gains, CanWalk, size_of_frames}
 use Rattle.handler_runs.specs.Reading.{holds_by}
 use Rattle.abstract_step.specs.Masks.{marked}
-use Rattle.abstract_step.specs.Walk.{scene_at, picked_at, so_far, paths_at, branch_at, value_at}
+use Rattle.abstract_step.specs.Walk.{scene_at, picked_at, behind_at, so_far, paths_at, branch_at, value_at}
 use Rattle.abstract_step.proofs.FoundLemmas.{room_for, some_more}
 use Rattle.abstract_step.proofs.WalkLemmas.{behind_top, size_pushed, stands_pushed, inside_frames, stands_less}
 use Rattle.abstract_step.proofs.WalkLemmas.{fits_each, inside_slots, picked_more, stands_picked, value_is}
@@ -18,6 +19,7 @@ use Rattle.abstract_step.proofs.WalkLemmas.{frames_back, slots_back, writes_back
 use Rattle.abstract_step.proofs.WalkLemmas.{read_remove, read_output, read_abort, read_choose, read_pick, can_read}
 use Rattle.abstract_step.proofs.WalkLemmas.{gains_read, choice_room, pick_room, choice_rest, choice_taken, choice_not}
 use Rattle.abstract_step.proofs.WalkLemmas.{values_same, top_small}
+use Rattle.abstract_step.proofs.WalkLemmas.{none_left, last_room, last_rest, last_taken, last_not}
 use Rattle.abstract_step.proofs.walk.+walk.Goals as goal
 
 -- a statement
@@ -281,6 +283,59 @@ alternatives-loop-branch-preserved t c = (
       (marked c.args.place.now.tuples.now c.args.spot.now.mask) (formula_of c.branch-item.result.guard))
       c.loop-branch.invariant.0 c.alternative-taken.ensures.taken),
 )
+
+-- a choice at the end of a block
+
+pub choice-last_choice-requires : goal.choice-last_choice-requires
+choice-last_choice-requires t c =
+    let none : c.args.more.now ≡ [] = none_left c.args.more.now (search rules) in (
+      omega (arith, c.decreases),
+      subst (λ (l : List Act). CanWalk c.args.place.now c.args.trail.now c.args.spot.now c.args.found.now
+          (Fork (branches_of c.args.branches.now) (body_of l))) none c.requires,
+    )
+
+pub last_choice-alternatives-taken-requires : goal.last_choice-alternatives-taken-requires
+last_choice-alternatives-taken-requires t c = (
+  omega (arith, c.decreases),
+  (
+    stands_less c.args.place.now c.args.trail.now c.args.spot.now _ _ c.requires.stands (omega arith),
+    (
+      (c.requires.fits.0, c.requires.fits.1, c.requires.fits.2.0),
+      last_room c.args.place.now c.args.trail.now c.args.spot.now (branches_of c.args.branches.now) c.args.found.now
+          c.requires,
+    ),
+  ),
+)
+
+pub last_choice-go_on-requires : goal.last_choice-go_on-requires
+last_choice-go_on-requires t c =
+    let e = c.alternatives-taken.ensures.same in
+    let size : size_of_frames c.alternatives-taken.new.trail.frames c.args.spot.now.top
+    ≡ size_of_frames c.args.trail.now.frames c.args.spot.now.top =
+    ap (λ (trail : Trail). size_of_frames trail.frames c.args.spot.now.top) e in (
+      omega (arith, size, c.decreases),
+      subst (λ trail. Stands c.args.place.now trail c.args.spot.now 0
+          × HasRoom c.alternatives-taken.new.found (behind_at c.args.place.now trail c.args.spot.now
+          (so_far trail c.args.spot.now))) (sym e) (
+            stands_less c.args.place.now c.args.trail.now c.args.spot.now _ _ c.requires.stands (omega arith),
+            last_rest c.args.place.now c.args.trail.now c.args.spot.now (branches_of c.args.branches.now)
+                c.args.found.now c.alternatives-taken.new.found c.requires c.alternatives-taken.ensures.gains
+                (search rules),
+          ),
+    )
+
+pub last_choice-returns-then-not-taken-clause-gains : goal.last_choice-returns-then-not-taken-clause-gains
+last_choice-returns-then-not-taken-clause-gains t c =
+    last_not c.args.place.now c.args.trail.now c.args.spot.now (branches_of c.args.branches.now) c.args.found.now
+    c.alternatives-taken.new.found c.go_on.new.found c.alternatives-taken.ensures.gains
+    (subst (λ trail. Gains c.alternatives-taken.new.found c.go_on.new.found (behind_at c.args.place.now trail
+    c.args.spot.now (so_far trail c.args.spot.now))) c.alternatives-taken.ensures.same c.go_on.ensures.gains)
+    (search rules)
+
+pub last_choice-returns-else-not-taken-clause-gains : goal.last_choice-returns-else-not-taken-clause-gains
+last_choice-returns-else-not-taken-clause-gains t c =
+    last_taken c.args.place.now c.args.trail.now c.args.spot.now (branches_of c.args.branches.now) c.args.found.now
+    c.alternatives-taken.new.found c.alternatives-taken.ensures.gains (search rules)
 
 -- a pick
 

@@ -30,6 +30,11 @@ decreases-choice l =
     5 * (size_of_frames l.trail.now.frames l.spot.now.top
     + 2 * (statements_of_branches (branches_of l.branches.now) + statements_of (body_of l.more.now))) + 10
 
+abbrev pub decreases-last_choice : goal.decreases-last_choice
+decreases-last_choice l =
+    5 * (size_of_frames l.trail.now.frames l.spot.now.top
+    + 2 * statements_of_branches (branches_of l.branches.now)) + 5
+
 abbrev pub decreases-alternatives : goal.decreases-alternatives
 decreases-alternatives l =
     5 * (size_of_frames l.trail.now.frames l.spot.now.top
