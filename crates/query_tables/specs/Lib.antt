@@ -1,2 +1,6 @@
-pub mod Laws
+pub mod Coded
+pub mod Search
+pub mod Sites
+pub mod Spots
+pub mod Stored
 pub mod Tables

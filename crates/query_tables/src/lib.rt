@@ -1,11 +1,13 @@
-//! Tables of the queries of boxes: which tuples they have at each packet, and which packets read a tuple.
+//! Tables of the queries of boxes: which tuples they have at each packet, and which packets have a tuple at which
+//! queries.
 #![tactic(auto)]
 
-pub mod laws;
 pub mod masks;
 mod search;
+mod sites;
+mod spots;
 mod table;
 mod tables;
 
-pub use table::Reader;
+pub use sites::{Site, SiteNumbers};
 pub use tables::QueryTables;

@@ -5,6 +5,8 @@ ghost use Rattle.box_contents.specs.Contents.{same_entry};
 ghost use Rattle.net_plan.specs.Plan.{packets_of, boxes_of};
 ghost use Rattle.packet_state.specs.Answers.{answers};
 ghost use Rattle.box_masks.specs.Writes.{AreShown, IsMaskOf, after_writes};
+ghost use Rattle.query_tables.specs.Sites.{bits_of};
+ghost use Rattle.query_tables.specs.Spots.{alike};
 ghost use Rattle.box_masks.specs.Bits.{is_alike, has_bits, agrees, are_consistent, bit_after, with_bit, patched};
 
 use crate::tables::QueryTables;
@@ -24,7 +26,7 @@ pub fn agree(
     q: u32,
     w: u16,
 ) -> bool
-    requires tables { tables.now ≡ net.now }
+    requires tables { tables.now.plan ≡ net.now }
     requires boxed { b < boxes_of net.now }
     requires packet { p < packets_of net.now }
     requires mask { IsMaskOf net.now b v }
@@ -51,7 +53,7 @@ pub fn patch(
     q: u32,
     w: u16,
 ) -> u16
-    requires tables { tables.now ≡ net.now }
+    requires tables { tables.now.plan ≡ net.now }
     requires boxed { b < boxes_of net.now }
     requires packet { q < packets_of net.now }
     requires mask { IsMaskOf net.now b w }
@@ -84,6 +86,35 @@ pub fn is_same(one: Entry, two: Entry) -> bool
     ensures { result ≡ same_entry one two }
 {
     one == two
+}
+
+/// The queries that have the tuple, as bits. Linear in the tuples.
+pub fn bits_of(entry: Entry, tuples: &[Entry]) -> u16
+    requires few { length tuples.now ≤ 12 }
+    ensures bits { result ≡ bits_of entry tuples.now }
+    ensures below { result < 2 ^ length tuples.now }
+{
+    match tuples.split_first() {
+        None => 0,
+        Some((tuple, rest)) => with_bit(bits_of(entry, rest), is_same(entry, *tuple)),
+    }
+}
+
+/// The places at which two lists have one and the same tuple, as bits. Linear in the tuples.
+pub fn alike(one: &[Entry], other: &[Entry]) -> u16
+    requires few { length one.now ≤ 12 }
+    ensures bits { result ≡ alike one.now other.now }
+    ensures below { result < 2 ^ length one.now }
+{
+    match one.split_first() {
+        None => 0,
+        Some((tuple, rest)) => match other.split_first() {
+            None => 0,
+            Some((other_tuple, others)) => {
+                with_bit(alike(rest, others), is_same(*tuple, *other_tuple))
+            }
+        },
+    }
 }
 
 // Whether no tuple has different bits, in one of the masks or in both.

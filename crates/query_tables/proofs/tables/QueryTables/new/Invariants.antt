@@ -1,4 +1,4 @@
-use Rattle.query_tables.specs.Tables.{AreTables}
+use Rattle.query_tables.specs.Stored.{AreTables}
 use Rattle.query_tables.proofs.tables.QueryTables.new.Given as goal
 
 abbrev pub invariant-loop-b : goal.invariant-loop-b
