@@ -7,7 +7,7 @@ use Rattle.std.specs.List.Sorted.{IsNonDecreasing, IsNonDecreasingBy}
 use Rattle.std.proofs.lemmas.Bool.{cases_lt}
 use Rattle.std.proofs.lemmas.List.{length-map, get_or-map, length_push, get_or_append_left, get_or_push}
 use Rattle.std.proofs.lemmas.List.Elements.{All-contains}
-use Rattle.std.proofs.lemmas.Option.{slice_get-get_or, slice_get_within, get_or_from_slice_get}
+use Rattle.std.proofs.lemmas.Option.{slice_get-get_or, slice_get_within, slice_get_cases, get_or_from_slice_get}
 use Rattle.box_contents.specs.declared.entry.Entry.{Entry}
 use Rattle.net_plan.specs.declared.plan.Plan.{Plan}
 use Rattle.net_plan.specs.Plan.{packets_of, boxes_of}
@@ -16,7 +16,7 @@ use Rattle.query_tables.specs.declared.sites.Site.{Site}
 use Rattle.query_tables.specs.declared.table.BoxTable.{BoxTable}
 use Rattle.query_tables.specs.Search.{HasNone, HasNoneFrom, IsInBoth}
 use Rattle.query_tables.specs.Sites.{bits_of, IsMember, Tables, sites_at, IsSiteAt, IsSiteOf, IsMemberAt}
-use Rattle.query_tables.specs.Sites.{AreCommon}
+use Rattle.query_tables.specs.Sites.{AreCommon, IsSite}
 use Rattle.query_tables.specs.Spots.{IsSpot, AreSpots, IsRun, IsSpotOf, AreSites, group_of, group_seen}
 use Rattle.query_tables.specs.Stored.{members_in, IsStored, IsFound, IsTable, AreTables, sites_in, seen_of}
 use Rattle.query_tables.specs.Tables.{Reads, tuples_in, all_tuples, key_of, key_seen}
@@ -206,21 +206,22 @@ module _ (plan : Plan) (boxes : List BoxTable) (box : ℕ) (table : BoxTable)
       get_or-map sites_in boxes box table [] (let number = are.one_each in omega (arith, number, there))
       ∙ ap sites_in (sym is)
 
-  pub sites_found : (sites : List Site) → sites ≡ table.sites.items → (entry : Entry) (from to packet : ℕ) →
+  -- a site of the tuple is among the numbers that a search gives
+  pub numbered : (sites : List Site) → sites ≡ table.sites.items → (entry : Entry) (from to number : ℕ) (site : Site) →
       ((number : ℕ) (d : Site) → number < length sites → key_seen (get_or sites number d) ≡ key_of entry →
       (from ≤ number) × (number < to)) →
-      packet < packets_of plan → Reads plan box packet entry →
-      (number : ℕ) × (from ≤ number) × (number < to) × IsSiteOf (seen_of plan boxes) box number entry packet
-  sites_found sites same entry from to packet all less reads =
-      let found : IsFound plan box table.sites.items entry packet = table_there.found packet entry less reads in
-      let at : slice_get sites found.number ≡ Some found.site =
-      subst (λ l. slice_get l found.number ≡ Some found.site) (sym same) found.at in
-      let within : (from ≤ found.number) × (found.number < to) =
-      all found.number found.site (slice_get_within sites found.number found.site at)
-      (ap key_seen (get_or_from_slice_get sites found.number found.site found.site at) ∙ ap key_of found.entry_is) in (
+      IsSiteAt (seen_of plan boxes) box number site → site.entry ≡ entry → (from ≤ number) × (number < to)
+  numbered sites same entry from to number site all at entry_is =
+      let here : slice_get sites number ≡ Some site =
+      subst (λ l. slice_get l number ≡ Some site) (sites_seen ∙ sym same) at in
+      all number site (slice_get_within sites number site here)
+      (ap key_seen (get_or_from_slice_get sites number site site here) ∙ ap key_of entry_is)
+
+  site_found : (packet : ℕ) (entry : Entry) → packet < packets_of plan → Reads plan box packet entry →
+      (number : ℕ) × IsSiteOf (seen_of plan boxes) box number entry packet
+  site_found packet entry less reads =
+      let found : IsFound plan box table.sites.items entry packet = table_there.found packet entry less reads in (
         found.number,
-        within.0,
-        within.1,
         record {
           site = found.site;
           at = subst (λ l. slice_get l found.number ≡ Some found.site) (sym sites_seen) found.at;
@@ -228,6 +229,32 @@ module _ (plan : Plan) (boxes : List BoxTable) (box : ℕ) (table : BoxTable)
           member = found.member;
         },
       )
+
+  site_right : (number : ℕ) (site : Site) → IsSiteAt (seen_of plan boxes) box number site → IsSite plan box site
+  site_right number site at =
+      let here : slice_get table.sites.items number ≡ Some site =
+      subst (λ l. slice_get l number ≡ Some site) sites_seen at in
+      (subst (IsStored plan box table.members.items) (get_or_from_slice_get table.sites.items number site site here)
+      (table_there.stored number site (slice_get_within table.sites.items number site here))).is
+
+-- and for each box
+module _ (plan : Plan) (boxes : List BoxTable) (are : AreTables plan (boxes_of plan) boxes) where
+  table_of : (box : ℕ) → box < boxes_of plan → (table : BoxTable) × (table ≡ get_or boxes box table)
+  table_of box less = elim ((slice_get_cases boxes box).1) [
+    | inl here ↦ (here.0, sym here.3)
+    | inr past ↦ absurd (let number = are.one_each in omega (arith, number, past.0, less))
+  ]
+
+  pub all_found : (box packet : ℕ) (entry : Entry) → box < boxes_of plan → packet < packets_of plan →
+      Reads plan box packet entry → (number : ℕ) × IsSiteOf (seen_of plan boxes) box number entry packet
+  all_found box packet entry boxed less reads =
+      let table = table_of box boxed in
+      site_found plan boxes box table.0 are boxed table.1 packet entry less reads
+
+  pub all_right : (box number : ℕ) (site : Site) → box < boxes_of plan → IsSiteAt (seen_of plan boxes) box number site →
+      IsSite plan box site
+  all_right box number site boxed at =
+      let table = table_of box boxed in site_right plan boxes box table.0 are boxed table.1 number site at
 
 no_site : Site
 no_site = record {

@@ -4,6 +4,8 @@ ghost use Rattle.std.specs.List.{All, Contains};
 ghost use Rattle.std.specs.List.Sorted.{IsNonDecreasing};
 ghost use Rattle.net_plan.specs.Plan.{packets_of, boxes_of};
 ghost use Rattle.query_tables.specs.Sites.{AreCommon, HasNoCommon, HasNoCommonFrom};
+ghost use Rattle.box_contents.specs.declared.entry.Entry.{Entry};
+ghost use Rattle.query_tables.specs.declared.sites.Site.{Site};
 ghost use Rattle.query_tables.specs.Sites.{IsMember, IsSite, IsSiteAt, IsSiteOf, sites_at};
 ghost use Rattle.query_tables.specs.Tables.{Reads, tuples_in};
 
@@ -59,6 +61,17 @@ impl<'a> QueryTables<'a> {
         Ok(QueryTables { net, boxes })
     }
 
+    /// What holds of all tables, for a caller that needs it: each packet that reads a tuple is at a site of it.
+    pub fn sound(&self)
+        ensures sites { (box packet : ℕ) (entry : Entry) → box < boxes_of self.now.plan →
+            packet < packets_of self.now.plan → Reads self.now.plan box packet entry →
+            (number : ℕ) × IsSiteOf self.now box number entry packet }
+        ensures are { (box number : ℕ) (site : Site) → box < boxes_of self.now.plan →
+            IsSiteAt self.now box number site → IsSite self.now.plan box site }
+    {
+        let _net = self.net;
+    }
+
     /// The tuples of the queries of a box at a packet, in the order of the queries. Constant time.
     pub fn tuples(&self, b: u32, p: u32) -> &[Entry]
         requires boxed { b < boxes_of self.now.plan }
@@ -72,8 +85,8 @@ impl<'a> QueryTables<'a> {
     pub fn sites(&self, b: u32, entry: Entry) -> SiteNumbers
         requires { b < boxes_of self.now.plan }
         ensures within { result.to ≤ length (sites_at self.now b) }
-        ensures all { (packet : ℕ) → packet < packets_of self.now.plan → Reads self.now.plan b packet entry →
-            (number : ℕ) × (result.from ≤ number) × (number < result.to) × IsSiteOf self.now b number entry packet }
+        ensures all { (number : ℕ) (site : Site) → IsSiteAt self.now b number site → site.entry ≡ entry →
+            (result.from ≤ number) × (number < result.to) }
     {
         search::numbers_of(&self.boxes[b as usize].sites, entry)
     }
