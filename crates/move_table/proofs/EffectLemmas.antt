@@ -27,14 +27,14 @@ use Rattle.move_table.specs.Kept.{is_written}
 use Rattle.move_table.proofs.KeptLemmas.{same_is, unwritten_bit, written_bit}
 
 -- the lowest bit of a number with a bit below it, and the others
-lowest : (mask : ℕ) (bit : Bool) → bit_at (with_bit mask bit) 0 ≡ cond bit 1 0
+pub lowest : (mask : ℕ) (bit : Bool) → bit_at (with_bit mask bit) 0 ≡ cond bit 1 0
 lowest mask bit = bit_at_lowest (with_bit mask bit) ∙ by bit
   where
     by : (bit : Bool) → with_bit mask bit % 2 ≡ cond bit 1 0
     by true = let e : (2 * mask + 1) % 2 ≡ 1 = omega arith in e
     by false = let e : (2 * mask + 0) % 2 ≡ 0 = omega arith in e
 
-higher : (mask i : ℕ) (bit : Bool) → bit_at (with_bit mask bit) (suc i) ≡ bit_at mask i
+pub higher : (mask i : ℕ) (bit : Bool) → bit_at (with_bit mask bit) (suc i) ≡ bit_at mask i
 higher mask i bit = bit_at-suc (with_bit mask bit) i ∙ ap (λ n. bit_at n i) (half_with_bit mask bit)
 
 odd_bit : (mask : ℕ) → bit_at mask 0 ≡ cond (is_odd mask) 1 0
@@ -46,10 +46,10 @@ odd_bit mask = bit_at_lowest mask ∙ by (mask % 2) (omega arith)
     by (suc (suc r)) less = absurd (let s : suc (suc r) < 2 = less in omega (arith, s))
 
 -- the bit in place of which another one is written
-abbrev new_bit : ℕ → ℕ → ℕ → ℕ
+abbrev pub new_bit : ℕ → ℕ → ℕ → ℕ
 new_bit old written value = max (min old (1 - written)) value
 
-one_new_bit : (written old value now : Bool) → (written ≡ true → now ≡ value) →
+pub one_new_bit : (written old value now : Bool) → (written ≡ true → now ≡ value) →
     (written ≡ false → (now ≡ old) × (value ≡ false)) →
     new_bit (cond old 1 0) (cond written 1 0) (cond value 1 0) ≡ cond now 1 0
 one_new_bit true true true now is other = sym (ap (λ b. cond {A = ℕ} b 1 0) (is refl))
@@ -140,7 +140,7 @@ module _ (tuples : List Entry) (mask : ℕ) (writes : List Write) where
       subst (λ (n : ℕ). n < 2 ^ length others) (sym is) (patched_below others w)
 
   -- the bits that contents have at the tuples are known
-  held_known : (test : Entry → Bool) (tuples : List Entry) (mask : ℕ) (other : Entry) → AreBitsBy test tuples mask →
+  pub held_known : (test : Entry → Bool) (tuples : List Entry) (mask : ℕ) (other : Entry) → AreBitsBy test tuples mask →
       (is_known (bit_in tuples mask other) ≡ true → is_set (bit_in tuples mask other) ≡ test other)
       × (is_known (bit_in tuples mask other) ≡ false → is_set (bit_in tuples mask other) ≡ false)
   held_known test [] mask other bits = (λ e. absurd (cc), λ e. refl)
@@ -159,7 +159,7 @@ module _ (tuples : List Entry) (mask : ℕ) (writes : List Write) where
       by true same behind = (λ e. bits.0 ∙ ap test (sym (same_is other tuple same)), λ e. absurd (cc))
       by false differs behind = behind
 
-  one_kept : (known old set : Bool) → (known ≡ true → set ≡ old) → (known ≡ false → set ≡ false) →
+  pub one_kept : (known old set : Bool) → (known ≡ true → set ≡ old) → (known ≡ false → set ≡ false) →
       min (cond old 1 0) (cond known 1 0) ≡ cond set 1 0
   one_kept true true set is isnt = sym (ap (λ b. cond {A = ℕ} b 1 0) (is refl))
   one_kept true false set is isnt = sym (ap (λ b. cond {A = ℕ} b 1 0) (is refl))

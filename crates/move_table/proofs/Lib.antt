@@ -1,4 +1,6 @@
 pub mod AddLemmas
+mod CoverLemmas
+mod CutLemmas
 mod EffectLemmas
 mod KeptLemmas
 mod MarkLemmas

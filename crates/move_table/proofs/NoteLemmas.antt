@@ -135,6 +135,18 @@ module _ (plan : Plan) where
         ])
         (noted_both (FirstMoves at) (λ move. Q move × (f move ≡ at)) old_moves now_moves new_moves old now new so_far turn)
 
+    -- past numbers that no such move has
+    pub first_jump : (at next : ℕ) (old_moves now_moves : List (List Bool)) (old now : Progress) → at ≤ next →
+        ((move : Move) → IsOne plan move → Q move → at ≤ f move → f move < next → ⊥) →
+        Noted plan (FirstMoves at) old_moves now_moves old now → Noted plan (FirstMoves next) old_moves now_moves old now
+    first_jump at next old_moves now_moves old now up none noted =
+        noted_as (FirstMoves at) (FirstMoves next) old_moves now_moves old now
+        (λ move holds. (holds.0, omega (arith, holds.1, up)))
+        (λ move is holds. elim (cases_lt (f move) at) [
+          | inl before ↦ (holds.0, before)
+          | inr later ↦ absurd (none move is holds.0 later holds.1)
+        ]) noted
+
     pub first_all : (at : ℕ) (old_moves new_moves : List (List Bool)) (old new : Progress) →
         ((move : Move) → IsOne plan move → Q move → f move < at) →
         Noted plan (FirstMoves at) old_moves new_moves old new → Noted plan Q old_moves new_moves old new

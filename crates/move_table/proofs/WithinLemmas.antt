@@ -1,5 +1,5 @@
 -- How notes of some moves among others come together.
-use Rattle.std.proofs.Common.{◌≡◌, ℕ, ◌+◌, ◌<◌, ◌⊎◌, inl, inr, Bool, List, get_or, sym, subst, arith}
+use Rattle.std.proofs.Common.{◌≡◌, ℕ, ◌+◌, ◌<◌, ◌≤◌, ◌⊎◌, inl, inr, Bool, List, get_or, sym, subst, arith}
 use Rattle.std.specs.List.{Contains}
 use Rattle.std.proofs.lemmas.Bool.{cases_lt}
 use Rattle.std.proofs.lemmas.List.Elements.{Contains-append_left}
@@ -10,7 +10,6 @@ use Rattle.net_plan.specs.declared.fact.Fact.{Fact}
 use Rattle.net_plan.specs.declared.fact.Fact.TheVariants.{State}
 use Rattle.net_plan.specs.Cells.{IsInRange, cell_of}
 use Rattle.box_moves.specs.Moves.{IsSized}
-use Rattle.query_tables.specs.declared.table.Reader.{Reader}
 use Rattle.move_table.specs.Offered.{IsDone}
 use Rattle.move_table.specs.Moves.{Move, IsOne, Has, before_of, after_of, Noted, AreFollowed}
 use Rattle.move_table.specs.Within.{NotedWithin}
@@ -199,6 +198,65 @@ module _ (plan : Plan) where
         ])
         (within_both (Turns at) M (R at) old_moves now_moves new_moves old now new so_far turn)
 
--- the turn of a reader: the moves at its packet
-abbrev pub IsTurn : List Reader → (Move → Type 0) → ℕ → Move → Type 0
-IsTurn readers P k move = P move × ((d : Reader) → move.packet ≡ (get_or readers k d).packet)
+-- in a loop over the packets of moves: those below `at`
+module _ (plan : Plan) (Q M : Move → Type 0) where
+  abbrev pub Below : ℕ → Move → Type 0
+  Below at move = Q move × (move.packet < at)
+
+  pub below_none : (moves : List (List Bool)) (work : Progress) → IsSized plan moves → AreFollowed plan moves work →
+      NotedWithin plan (Below 0) M moves moves work work
+  below_none moves work sized followed =
+      within_known plan (Below 0) M moves work sized followed (λ move is holds. absurd (omega (arith, holds.1)))
+
+  pub below_next : (at next : ℕ) (P : Move → Type 0) (old_moves now_moves new_moves : List (List Bool))
+      (old now new : Progress) →
+      ((move : Move) → Q move → at ≤ move.packet → move.packet < next → ⊥) →
+      ((move : Move) → Q move → move.packet ≡ next → P move) →
+      NotedWithin plan (Below at) M old_moves now_moves old now → NotedWithin plan P M now_moves new_moves now new →
+      NotedWithin plan (Below (next + 1)) M old_moves new_moves old new
+  below_next at next P old_moves now_moves new_moves old now new none here so_far turn =
+      within_less plan (Below (next + 1)) M (λ move. Below at move ⊎ P move) old_moves new_moves old new
+      (λ move is holds. elim (cases_lt move.packet at) [
+        | inl before ↦ inl (holds.0, before)
+        | inr later ↦ elim (cases_lt move.packet next) [
+          | inl between ↦ absurd (none move holds.0 later between)
+          | inr past ↦ inr (here move holds.0 (let same : move.packet ≡ next = omega (arith, holds.1, past) in same))
+        ]
+      ])
+      (within_both plan (Below at) M P old_moves now_moves new_moves old now new so_far turn)
+
+  pub below_all : (at : ℕ) (old_moves new_moves : List (List Bool)) (old new : Progress) →
+      ((move : Move) → Q move → at ≤ move.packet → ⊥) → NotedWithin plan (Below at) M old_moves new_moves old new →
+      NotedWithin plan Q M old_moves new_moves old new
+  below_all at old_moves new_moves old new none so_far =
+      within_less plan Q M (Below at) old_moves new_moves old new
+      (λ move is holds. elim (cases_lt move.packet at) [
+        | inl before ↦ (holds, before)
+        | inr later ↦ absurd (none move holds later)
+      ]) so_far
+
+-- in a loop that begins at a number
+module _ (plan : Plan) (R : ℕ → Move → Type 0) (M : Move → Type 0) (from : ℕ) where
+  abbrev pub FromThen : ℕ → Move → Type 0
+  FromThen k move = (from ≤ k) × R k move
+
+  abbrev pub TurnsFrom : ℕ → Move → Type 0
+  TurnsFrom = Turns plan FromThen M
+
+  pub from_none : (moves : List (List Bool)) (work : Progress) → IsSized plan moves → AreFollowed plan moves work →
+      NotedWithin plan (TurnsFrom from) M moves moves work work
+  from_none moves work sized followed =
+      within_known plan (TurnsFrom from) M moves work sized followed
+      (λ move is turns. absurd (omega (arith, turns.1, turns.2.0)))
+
+  pub from_next : (at : ℕ) (old_moves now_moves new_moves : List (List Bool)) (old now new : Progress) →
+      NotedWithin plan (TurnsFrom at) M old_moves now_moves old now →
+      NotedWithin plan (R at) M now_moves new_moves now new →
+      NotedWithin plan (TurnsFrom (at + 1)) M old_moves new_moves old new
+  from_next at old_moves now_moves new_moves old now new so_far turn =
+      turns_next plan FromThen M at old_moves now_moves new_moves old now new so_far
+      (within_less plan (FromThen at) M (R at) now_moves new_moves now new (λ move is holds. holds.1) turn)
+
+-- in a loop over packets: the moves at those before `at`
+abbrev pub IsTurn : List ℕ → (Move → Type 0) → ℕ → Move → Type 0
+IsTurn packets P k move = P move × ((d : ℕ) → move.packet ≡ get_or packets k d)

@@ -1,5 +1,5 @@
 -- Which tuples writes leave as they are, for contents that answer with a mask at a packet.
-use Rattle.std.specs.Prelude.{ℕ, ◌/◌, Bool, true, false, not, ◌&&◌, ◌||◌, List, [], ◌∷◌, Some, None, Option}
+use Rattle.std.specs.Prelude.{ℕ, ◌/◌, Bool, false, not, ◌&&◌, ◌||◌, List, [], ◌∷◌}
 use Rattle.box_contents.specs.declared.entry.Entry.{Entry}
 use Rattle.box_contents.specs.Contents.{same_entry}
 use Rattle.box_masks.specs.declared.write.Write.{Write}
@@ -20,13 +20,3 @@ leaves (tuple ∷ tuples) mask writes entry =
 -- whether the entry stays: it isn't written, or what was written to it last was there
 abbrev pub keeps : List Entry → ℕ → List Write → Entry → Bool
 keeps tuples mask writes entry = not (is_written writes entry) || leaves tuples mask writes entry
-
-abbrev pub is_exempt : Option Entry → Entry → Bool
-is_exempt None entry = false
-is_exempt (Some other) entry = same_entry other entry
-
--- whether each of the others stays, but for the one that is exempt
-abbrev pub keeps_others : List Entry → ℕ → List Write → Option Entry → List Entry → Bool
-keeps_others tuples mask writes exempt [] = true
-keeps_others tuples mask writes exempt (other ∷ others) =
-    (is_exempt exempt other || keeps tuples mask writes other) && keeps_others tuples mask writes exempt others

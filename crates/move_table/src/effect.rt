@@ -1,13 +1,13 @@
 // What writes do to the masks at a packet, as words with one bit a query.
-ghost use Rattle.std.specs.Prelude.{◌≡◌, ℕ, ◌<◌, ◌≤◌, ◌^◌, ◌↔◌, List, length, IsTrue, bit_and, bit_or};
-ghost use Rattle.std.specs.Int.{bit_not, w16};
+ghost use Rattle.std.specs.Prelude.{◌≡◌, ℕ, ◌<◌, ◌≤◌, ◌^◌, List, length, MatchOption, bit_and};
 ghost use Rattle.box_contents.specs.declared.entry.Entry.{Entry};
 ghost use Rattle.net_plan.specs.Plan.{packets_of, boxes_of};
 ghost use Rattle.packet_state.specs.Answers.{answers};
 ghost use Rattle.box_masks.specs.Bits.{with_bit};
 ghost use Rattle.box_masks.specs.Writes.{IsMaskOf, after_writes};
 ghost use Rattle.query_tables.specs.Tables.{tuples_in};
-ghost use Rattle.move_table.specs.Effect.{bit_in, with_tuple, effect_over, AreBelow, IsEffectOf};
+ghost use Rattle.move_table.specs.Effect.{bit_in, with_tuple, effect_over, cut, overwritten};
+ghost use Rattle.move_table.specs.Effect.{AreBelow, HasNoKnown, IsEffectOf};
 
 use crate::kept::is_written;
 use crate::laws::laws;
@@ -86,11 +86,30 @@ fn with_bit(mask: u16, bit: bool) -> u16
     2 * mask + u16::from(bit)
 }
 
-/// Whether the mask has the known bits. A few instructions.
-pub fn has_known(effect: &Effect, w: u16) -> bool
-    ensures { IsTrue result ↔ (bit_and w effect.now.known ≡ effect.now.bits) }
+/// The effect on these queries alone.
+pub fn cut(effect: &Effect, fixed: u16) -> Effect
+    ensures { result ≡ cut effect.now fixed }
 {
-    w & effect.known == effect.bits
+    Effect {
+        written: effect.written & fixed,
+        values: effect.values & fixed,
+        known: effect.known & fixed,
+        bits: effect.bits & fixed,
+    }
+}
+
+/// The least mask from one on, below another, that has these bits at the queries that are known, if there is one.
+/// Linear in the masks that are passed over, a few instructions each.
+pub fn next_known(known: u16, bits: u16, from: u16, to: u16) -> Option<u16>
+    ensures { MatchOption result (HasNoKnown known bits from to)
+        (λ w. (from ≤ w) × (w < to) × (bit_and w known ≡ bits) × HasNoKnown known bits from w) }
+{
+    for w in from..to {
+        if w & known == bits {
+            return Some(w);
+        }
+    }
+    None
 }
 
 /// The mask after the writes. A few instructions.
@@ -107,13 +126,13 @@ pub fn patched(net: &Network, b: u32, update: &[Write], q: u32, w: u16, effect: 
     net.sound();
     let _queries = net.queries(b);
     let _update = update;
-    overwritten(w, effect.written, effect.values)
+    overwritten(w, effect)
 }
 
-// The mask with these bits in place of those that are written.
-fn overwritten(w: u16, written: u16, values: u16) -> u16
-    ensures mask { result ≡ bit_or (bit_and w (bit_not w16 written)) values }
+/// The mask with the values in place of the bits that are written.
+pub fn overwritten(w: u16, effect: &Effect) -> u16
+    ensures mask { result ≡ overwritten w effect.now }
     ensures small { result < 2 ^ 16 }
 {
-    (w & !written) | values
+    (w & !effect.written) | effect.values
 }

@@ -2,47 +2,17 @@
 ghost use Rattle.std.specs.Prelude.{◌≡◌, ◌&&◌};
 ghost use Rattle.box_contents.specs.Contents.{same_entry};
 ghost use Rattle.box_masks.specs.Bits.{is_one, bit_after};
-ghost use Rattle.move_table.specs.Kept.{is_written, leaves, keeps, is_exempt, keeps_others};
+ghost use Rattle.move_table.specs.Kept.{is_written, leaves, keeps};
 
 use box_contents::Entry;
 use box_masks::Write;
 use query_tables::masks::{bit_after, is_same};
-
-/// Whether each of the others stays for contents that answer with the mask where the tuples are asked for, but for the
-/// one that is exempt.
-pub fn keeps_others(
-    tuples: &[Entry],
-    v: u16,
-    update: &[Write],
-    exempt: Option<Entry>,
-    others: &[Entry],
-) -> bool
-    ensures { result ≡ keeps_others tuples.now v update.now exempt others.now }
-{
-    match others.split_first() {
-        None => true,
-        Some((other, rest)) => {
-            (is_exempt(exempt, *other) || keeps(tuples, v, update, *other))
-                && keeps_others(tuples, v, update, exempt, rest)
-        }
-    }
-}
 
 /// Whether the entry stays for contents that answer with the mask where the tuples are asked for.
 pub fn keeps(tuples: &[Entry], v: u16, update: &[Write], entry: Entry) -> bool
     ensures { result ≡ keeps tuples.now v update.now entry }
 {
     !is_written(update, entry) || leaves(tuples, v, update, entry)
-}
-
-/// Whether the entry is the one that is exempt.
-pub fn is_exempt(exempt: Option<Entry>, entry: Entry) -> bool
-    ensures { result ≡ is_exempt exempt entry }
-{
-    match exempt {
-        None => false,
-        Some(other) => is_same(other, entry),
-    }
 }
 
 /// Whether one of the writes is to the entry.

@@ -8,7 +8,7 @@ mod laws;
 mod marks;
 mod notes;
 mod offers;
-mod spots;
+mod pairs;
 mod table;
 mod update;
 

@@ -1,182 +1,233 @@
-// Marks for writes of which all moves were noted.
-ghost use Rattle.std.specs.Prelude.{◌≡◌, ◌<◌, IsTrue, [], ◌∷◌, Some, slice_get};
+// Marks for moves that were noted at all packets of a site.
+ghost use Rattle.std.specs.Prelude.{◌≡◌, ◌<◌, ◌≤◌, List, IsTrue};
+ghost use Rattle.box_contents.specs.declared.entry.Entry.{Entry};
+ghost use Rattle.packet_state.specs.Answers.{answers};
 ghost use Rattle.net_plan.specs.Plan.{packets_of, boxes_of};
-ghost use Rattle.box_masks.specs.Writes.{IsMaskOf};
-ghost use Rattle.box_moves.specs.Moves.{IsKept, IsSized, masks_at};
-ghost use Rattle.query_tables.specs.Tables.{queries_of, tuples_in};
-ghost use Rattle.move_table.specs.Effect.{IsEffectOf};
-ghost use Rattle.move_table.specs.Marks.{AllNoted, AreMarks, IsNotedAt, IsNotedFrom, mark_of};
+ghost use Rattle.box_masks.specs.Writes.{IsMaskOf, AreContentsOf};
+ghost use Rattle.box_moves.specs.Moves.{IsKept, IsSized, HasMove, masks_at};
+ghost use Rattle.query_tables.specs.Sites.{IsSite, IsSiteAt};
+ghost use Rattle.move_table.specs.Effect.{between};
+ghost use Rattle.move_table.specs.Marks.{AllNoted, AreMarks, IsCut, IsNoted, IsNotedAt};
 
-use crate::effect::{Effect, effect_of, patched};
-use crate::spots::{Spot, spot_of};
-use box_contents::Entry;
-use box_masks::Write;
+use crate::effect::{Effect, next_known, overwritten};
 use box_moves::Moves;
 use net_plan::Network;
-use query_tables::QueryTables;
 use query_tables::masks::agree;
+use query_tables::{QueryTables, Site};
 
-/// Whether a mark says that all moves of a write to the tuple were noted. Logarithmic in the packets times the queries.
-pub fn is_marked(
+/// Whether marks say that all was noted of what the effect makes at the packets of a site. Linear in the masks.
+pub fn is_settled(
     net: &Network,
     tables: &QueryTables<'_>,
     b: u32,
-    entry: Entry,
-    add: bool,
+    number: u32,
+    site: &Site,
+    effect: &Effect,
     moves: &Moves,
     marks: &Moves,
 ) -> bool
-    requires tables { tables.now ≡ net.now }
+    requires tables { tables.now.plan ≡ net.now }
     requires boxed { b < boxes_of net.now }
     requires kept { IsKept net.now b }
-    requires marks { AreMarks net.now moves.now marks.now }
-    ensures { IsTrue result → AllNoted net.now moves.now b entry add }
+    requires at { IsSiteAt tables.now b number site.now }
+    requires is { IsSite net.now b site.now }
+    requires cut { IsCut site.now.fixed effect.now }
+    requires marks { AreMarks net.now tables.now moves.now marks.now }
+    ensures { IsTrue result → AllNoted net.now moves.now b site.now effect.now }
 {
+    net.sound();
     let _moves = moves;
-    match spot_of(net, tables, b, entry) {
-        None => false,
-        Some(spot) => marks.has(net, b, spot.packet, mark_of(net, b, spot.query, add), 0),
+    let _queries = net.queries(b);
+    let masks = masks_of(net, b);
+    let mut from = 0;
+    while let Some(w) = next_known(effect.known | !site.fixed, effect.bits, from, masks) {
+        if !is_marked(net, b, number, w, overwritten(w, effect), marks) {
+            return false;
+        }
+        from = w + 1;
     }
+    true
 }
 
-/// Marks a write to the tuple where all its moves were noted. Linear in the readers of the tuple times the masks.
+// Whether the move is none, or has a mark.
+fn is_marked(net: &Network, b: u32, number: u32, w: u16, after: u16, marks: &Moves) -> bool
+    requires boxed { b < boxes_of net.now }
+    requires kept { IsKept net.now b }
+    requires mask { IsMaskOf net.now b w }
+    requires sized { IsSized net.now marks.now }
+    ensures { IsTrue result → IsNoted net.now marks.now b number w after }
+{
+    after == w || has_move(net, b, number, w, after, marks)
+}
+
+// Whether the numbers are those of a move, and it was noted.
+fn has_move(net: &Network, b: u32, q: u32, w: u16, after: u16, moves: &Moves) -> bool
+    requires boxed { b < boxes_of net.now }
+    requires kept { IsKept net.now b }
+    requires mask { IsMaskOf net.now b w }
+    requires sized { IsSized net.now moves.now }
+    ensures { IsTrue result → HasMove net.now moves.now b q w after }
+{
+    net.sound();
+    q < net.headers().count() && after < masks_of(net, b) && moves.has(net, b, q, w, after)
+}
+
+/// Marks what the effect makes at a site, where all of it was noted. Linear in the packets of the site times the masks.
 pub fn mark(
     net: &Network,
     tables: &QueryTables<'_>,
     b: u32,
-    entry: Entry,
-    add: bool,
+    number: u32,
+    site: &Site,
+    effect: &Effect,
     moves: &Moves,
     marks: &mut Moves,
 )
-    requires tables { tables.now ≡ net.now }
+    requires tables { tables.now.plan ≡ net.now }
     requires boxed { b < boxes_of net.now }
     requires kept { IsKept net.now b }
+    requires at { IsSiteAt tables.now b number site.now }
     requires sized { IsSized net.now moves.now }
-    requires marks { AreMarks net.now moves.now marks.old }
-    ensures { AreMarks net.now moves.now marks.new }
-{
-    if !all_noted(net, tables, b, entry, add, moves) {
-        return;
-    }
-    if let Some(spot) = spot_of(net, tables, b, entry) {
-        set(net, tables, b, entry, add, spot, moves, marks);
-    }
-}
-
-// Sets the mark.
-fn set(
-    net: &Network,
-    tables: &QueryTables<'_>,
-    b: u32,
-    entry: Entry,
-    add: bool,
-    spot: Spot,
-    moves: &Moves,
-    marks: &mut Moves,
-)
-    requires tables { tables.now ≡ net.now }
-    requires boxed { b < boxes_of net.now }
-    requires kept { IsKept net.now b }
-    requires packet { spot.packet < packets_of net.now }
-    requires query { slice_get (tuples_in net.now b spot.packet) spot.query ≡ Some entry }
-    requires noted { AllNoted net.now moves.now b entry add }
-    requires marks { AreMarks net.now moves.now marks.old }
-    ensures { AreMarks net.now moves.now marks.new }
-{
-    let _moves = moves;
-    marks.add(net, b, spot.packet, mark_of(net, b, spot.query, add), 0);
-}
-
-// The number of a write to the tuple of a query.
-fn mark_of(net: &Network, b: u32, query: u16, add: bool) -> u16
-    requires boxed { b < boxes_of net.now }
-    requires query { query < queries_of net.now b }
-    ensures mark { result ≡ mark_of query add }
-    ensures below { result < masks_at net.now b }
+    requires marks { AreMarks net.now tables.now moves.now marks.old }
+    ensures { AreMarks net.now tables.now moves.now marks.new }
 {
     net.sound();
     let _queries = net.queries(b);
-    if add { 2 * query + 1 } else { 2 * query }
+    let masks = masks_of(net, b);
+    let mut from = 0;
+    while let Some(w) = next_known(effect.known | !site.fixed, effect.bits, from, masks) {
+        mark_one(
+            net,
+            tables,
+            b,
+            number,
+            site,
+            w,
+            overwritten(w, effect),
+            moves,
+            marks,
+        );
+        from = w + 1;
+    }
 }
 
-// Whether all moves of a write to the tuple were noted, at each packet that reads it.
+// Marks a move of the queries that are fixed at a site, where all of it was noted.
+fn mark_one(
+    net: &Network,
+    tables: &QueryTables<'_>,
+    b: u32,
+    number: u32,
+    site: &Site,
+    w: u16,
+    after: u16,
+    moves: &Moves,
+    marks: &mut Moves,
+)
+    requires tables { tables.now.plan ≡ net.now }
+    requires boxed { b < boxes_of net.now }
+    requires kept { IsKept net.now b }
+    requires at { IsSiteAt tables.now b number site.now }
+    requires mask { IsMaskOf net.now b w }
+    requires sized { IsSized net.now moves.now }
+    requires marks { AreMarks net.now tables.now moves.now marks.old }
+    ensures { AreMarks net.now tables.now moves.now marks.new }
+{
+    net.sound();
+    if number >= net.headers().count() || after >= masks_of(net, b) || after == w {
+        return;
+    }
+    if marks.has(net, b, number, w, after) {
+        return;
+    }
+    if all_noted(net, tables, b, number, site, w, after, moves) {
+        marks.add(net, b, number, w, after);
+    }
+}
+
+// Whether all was noted of what makes one mask of the queries that are fixed at a site the other one.
 fn all_noted(
     net: &Network,
     tables: &QueryTables<'_>,
     b: u32,
-    entry: Entry,
-    add: bool,
+    number: u32,
+    site: &Site,
+    w: u16,
+    after: u16,
     moves: &Moves,
 ) -> bool
-    requires tables { tables.now ≡ net.now }
+    requires tables { tables.now.plan ≡ net.now }
     requires boxed { b < boxes_of net.now }
     requires kept { IsKept net.now b }
+    requires at { IsSiteAt tables.now b number site.now }
     requires sized { IsSized net.now moves.now }
-    ensures { IsTrue result → AllNoted net.now moves.now b entry add }
+    ensures { IsTrue result → AllNoted net.now moves.now b site.now (between site.now.fixed w after) }
 {
-    for reader in tables.readers(b, entry) {
-        if !is_noted_at(net, tables, b, entry, add, reader.packet, moves) {
+    let effect = Effect {
+        written: site.fixed,
+        values: after,
+        known: site.fixed,
+        bits: w,
+    };
+    for q in tables.members(b, number) {
+        if !is_noted_at(net, tables, b, *q, &effect, moves) {
             return false;
         }
     }
     true
 }
 
-// Whether what the write makes of any answers at the packet was noted.
+// Whether all was noted of what the effect makes at a packet.
 fn is_noted_at(
     net: &Network,
     tables: &QueryTables<'_>,
     b: u32,
-    entry: Entry,
-    add: bool,
     q: u32,
+    effect: &Effect,
     moves: &Moves,
 ) -> bool
-    requires tables { tables.now ≡ net.now }
+    requires tables { tables.now.plan ≡ net.now }
     requires boxed { b < boxes_of net.now }
     requires kept { IsKept net.now b }
     requires packet { q < packets_of net.now }
     requires sized { IsSized net.now moves.now }
-    ensures { IsTrue result → IsNotedAt net.now moves.now b entry add q }
+    ensures { IsTrue result → IsNotedAt net.now moves.now b effect.now q }
 {
     net.sound();
     let _queries = net.queries(b);
-    let effect = effect_of(&[], 0, &[Write { entry, add }], tables.tuples(b, q));
-    for w in 0..masks_of(net, b) {
-        if !is_noted_from(net, tables, b, entry, add, q, w, &effect, moves) {
+    let masks = masks_of(net, b);
+    let mut from = 0;
+    while let Some(w) = next_known(effect.known, effect.bits, from, masks) {
+        if !is_noted_from(net, tables, b, q, w, overwritten(w, effect), moves) {
             return false;
         }
+        from = w + 1;
     }
     true
 }
 
-// Whether what the write makes of these answers was noted, or no contents answer so.
+// Whether the move was noted, or is none, or no contents answer with its first mask.
 fn is_noted_from(
     net: &Network,
     tables: &QueryTables<'_>,
     b: u32,
-    entry: Entry,
-    add: bool,
     q: u32,
     w: u16,
-    effect: &Effect,
+    after: u16,
     moves: &Moves,
 ) -> bool
-    requires tables { tables.now ≡ net.now }
-    requires effect { IsEffectOf (record { entry = entry; add = add } ∷ []) (tuples_in net.now b q) effect.now }
+    requires tables { tables.now.plan ≡ net.now }
     requires boxed { b < boxes_of net.now }
     requires kept { IsKept net.now b }
     requires packet { q < packets_of net.now }
     requires mask { IsMaskOf net.now b w }
     requires sized { IsSized net.now moves.now }
-    ensures { IsTrue result → IsNotedFrom net.now moves.now b entry add q w }
+    ensures { IsTrue result → (contents : List Entry) → AreContentsOf net.now b contents →
+        answers net.now b q contents ≡ w → IsNoted net.now moves.now b q w after }
 {
-    let after = patched(net, b, &[Write { entry, add }], q, w, effect);
     if after == w {
         return true;
     }
-    if moves.has(net, b, q, w, after) {
+    if has_move(net, b, q, w, after, moves) {
         return true;
     }
     !agree(net, tables, b, q, w, q, w)
@@ -185,7 +236,8 @@ fn is_noted_from(
 /// How many masks a box has.
 pub fn masks_of(net: &Network, b: u32) -> u16
     requires { b < boxes_of net.now }
-    ensures { result ≡ masks_at net.now b }
+    ensures masks { result ≡ masks_at net.now b }
+    ensures few { result ≤ 4096 }
 {
     net.sound();
     2u16.pow(net.queries(b).len() as u32)

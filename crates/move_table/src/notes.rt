@@ -9,7 +9,7 @@ ghost use Rattle.query_tables.specs.Tables.{tuples_in};
 ghost use Rattle.move_table.specs.Effect.{effect_over};
 ghost use Rattle.move_table.specs.Moves.{Adds, AreFollowed, Noted, Patches};
 
-use crate::effect::{Effect, effect_of, has_known, patched};
+use crate::effect::{Effect, effect_of, next_known, patched};
 use crate::marks::masks_of;
 use crate::offers::offer;
 use box_masks::Write;
@@ -25,7 +25,8 @@ fn add_move(net: &Network, b: u32, q: u32, w: u16, after: u16, moves: &mut Moves
     requires sized { IsSized net.now moves.old }
     requires kept { IsKept net.now b }
     requires is_move { IsMove net.now b q w after }
-    ensures { Adds net.now (λ move. move ≡ record { box = b; packet = q; mask = w; other = after }) moves.old moves.new }
+    ensures { Adds net.now (λ move. move ≡ record { box = b; packet = q; mask = w; other = after }) moves.old
+        moves.new }
 {
     if after != w {
         moves.add(net, b, q, w, after);
@@ -70,7 +71,7 @@ fn note_mask<S: CellSet>(
     moves: &mut Moves,
     work: &mut Work<S>,
 )
-    requires tables { tables.now ≡ net.now }
+    requires tables { tables.now.plan ≡ net.now }
     requires effect { effect.now ≡ effect_over (tuples_in net.now b p) v update.now (tuples_in net.now b q) }
     requires cells { work.old.cells ≡ cells_of net.now }
     requires sized { IsSized net.now moves.old }
@@ -85,11 +86,6 @@ fn note_mask<S: CellSet>(
         (λ move. (Patches net.now b p v update.now move × (move.packet ≡ q)) × (move.mask ≡ w))
         moves.old moves.new work.old work.new }
 {
-    net.sound();
-    let _queries = net.queries(b);
-    if !has_known(effect, w) {
-        return;
-    }
     let after = patched(net, b, update, q, w, effect);
     if after == w {
         return;
@@ -114,7 +110,7 @@ pub fn note_packet<S: CellSet>(
     moves: &mut Moves,
     work: &mut Work<S>,
 )
-    requires tables { tables.now ≡ net.now }
+    requires tables { tables.now.plan ≡ net.now }
     requires cells { work.old.cells ≡ cells_of net.now }
     requires sized { IsSized net.now moves.old }
     requires followed { AreFollowed net.now moves.old work.old }
@@ -129,7 +125,10 @@ pub fn note_packet<S: CellSet>(
     net.sound();
     let _queries = net.queries(b);
     let effect = effect_of(tables.tuples(b, p), v, update, tables.tuples(b, q));
-    for w in 0..masks_of(net, b) {
+    let masks = masks_of(net, b);
+    let mut from = 0;
+    while let Some(w) = next_known(effect.known, effect.bits, from, masks) {
         note_mask(net, tables, b, p, v, update, q, w, &effect, moves, work);
+        from = w + 1;
     }
 }

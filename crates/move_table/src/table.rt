@@ -19,8 +19,8 @@ use std::marker::Model;
 
 /// The moves of the boxes that are kept. Contracts see it as the plan of its network and the moves that were noted.
 ///
-/// Inside it has marks for writes of which all moves were noted, so that most results of firings need no visit to the
-/// packets that read what they write.
+/// Inside it has marks for moves that were noted at all packets of a site, so that most results of firings need no
+/// visit to the packets that read what they write.
 #[derive(Drop)]
 pub struct MoveTable<'a> {
     net: &'a Network,
@@ -43,8 +43,8 @@ impl<'a> Model for MoveTable<'a> {
 
     ghost view = { λ table. record { plan = table.net.now; moves = table.moves } };
 
-    ghost invariant = { λ table. (table.tables ≡ table.net.now) × IsSized table.net.now table.moves
-        × AreMarks table.net.now table.moves table.marks };
+    ghost invariant = { λ table. (table.tables.plan ≡ table.net.now) × IsSized table.net.now table.moves
+        × AreMarks table.net.now table.tables table.moves table.marks };
 }
 
 impl<'a> MoveTable<'a> {
@@ -107,7 +107,7 @@ impl<'a> MoveTable<'a> {
     }
 
     /// The least mask that is `from` or more to which a move from this mask was noted, where there is one. Linear in
-    /// the distance to it, or to the last mask; no memory.
+    /// the masks that are passed over, divided by 64; no memory.
     pub fn next(&self, b: u32, packet: u32, mask: u16, from: u16) -> Option<u16>
         requires kept { IsKept self.now.plan b }
         requires boxed { b < boxes_of self.now.plan }

@@ -1,30 +1,36 @@
-use Rattle.std.proofs.Common.{ℕ, ◌<◌, sym, subst, get_or, arith}
+use Rattle.std.proofs.Common.{◌≡◌, ℕ, inl, inr, sym, subst, get_or, arith}
+use Rattle.std.proofs.lemmas.Bool.{cases_lt}
 use Rattle.std.proofs.lemmas.List.{get_or_default}
 use Rattle.net_plan.specs.declared.plan.Plan.{Plan}
-use Rattle.net_plan.specs.Plan.{packets_of}
-use Rattle.query_tables.specs.declared.table.Reader.{Reader}
-use Rattle.query_tables.specs.Tables.{Reads, reader_of}
+use Rattle.query_tables.specs.Sites.{IsMember}
+use Rattle.move_table.specs.Effect.{between}
 use Rattle.move_table.specs.Marks.{IsNotedAt}
-use Rattle.move_table.proofs.MarkLemmas.{below_next}
+use Rattle.move_table.proofs.MarkLemmas.{member_in_range}
 use Rattle.move_table.proofs.marks.all_noted.Goals as goal
 
-pub loop-reader-preserved : goal.loop-reader-preserved
-loop-reader-preserved c k d less =
-    let items = c.readers-reader-items.result.now in
-    let at = c.loop-reader.reader-index in
-    below_next
-    (λ (n : ℕ). (e : Reader) →
-    IsNotedAt c.args.net.now c.args.moves.now c.args.b c.args.entry c.args.add (get_or items n e).packet) at
-    (λ n below e. c.loop-reader.invariant n e below)
-    (λ e. subst (λ (r : Reader). IsNotedAt c.args.net.now c.args.moves.now c.args.b c.args.entry c.args.add r.packet)
-    (get_or_default items at _ e c.loop-reader-test.true)
-    (c.is_noted_at.ensures c.if-not-is_noted_at.false)) k less d
+pub is_noted_at-requires-clause-packet : goal.is_noted_at-requires-clause-packet
+is_noted_at-requires-clause-packet c =
+    member_in_range c.args.tables.now.plan c.args.net.now c.requires.tables c.args.b c.args.site.now
+    c.members-q-items.result.now (c.members-q-items.ensures.only c.args.site.now c.requires.at) c.loop-q.q-index _
+    c.loop-q-test.true
+
+pub loop-q-preserved : goal.loop-q-preserved
+loop-q-preserved c k d less =
+    let items = c.members-q-items.result.now in
+    let at = c.loop-q.q-index in
+    let effect = between c.args.site.now.fixed c.args.w c.args.after in
+    elim (cases_lt k at) [
+      | inl before ↦ c.loop-q.invariant k d before
+      | inr later ↦ let same : at ≡ k = omega (arith, less, later) in
+          subst (λ (n : ℕ). IsNotedAt c.args.net.now c.args.moves.now c.args.b effect (get_or items n d)) same
+          (subst (IsNotedAt c.args.net.now c.args.moves.now c.args.b effect)
+          (get_or_default items at _ d c.loop-q-test.true) (c.is_noted_at.ensures c.if-not-is_noted_at.false))
+    ]
 
 pub returns : goal.returns
-returns c holds packet small reads =
-    let items = c.readers-reader-items.result.now in
-    let there = c.readers-reader-items.ensures.all packet
-    (subst (λ (plan : Plan). packet < packets_of plan) (sym c.requires.tables) small)
-    (subst (λ (plan : Plan). Reads plan c.args.b packet c.args.entry) (sym c.requires.tables) reads) in
-    subst (λ (r : Reader). IsNotedAt c.args.net.now c.args.moves.now c.args.b c.args.entry c.args.add r.packet) there.2
-    (c.loop-reader.invariant there.0 (reader_of packet c.args.entry) (omega (arith, there.1, c.loop-reader-test.false)))
+returns c holds packet member =
+    let items = c.members-q-items.result.now in
+    let there = c.members-q-items.ensures.all c.args.site.now c.requires.at packet
+    (subst (λ (p : Plan). IsMember p c.args.b c.args.site.now packet) (sym c.requires.tables) member) in
+    subst (IsNotedAt c.args.net.now c.args.moves.now c.args.b (between c.args.site.now.fixed c.args.w c.args.after)) there.2
+    (c.loop-q.invariant there.0 packet (omega (arith, there.1, c.loop-q-test.false)))

@@ -1,18 +1,25 @@
-use Rattle.std.proofs.Common.{ℕ, ◌<◌, ◌≤◌, subst, arith}
+use Rattle.std.proofs.Common.{◌≡◌, ◌<◌, subst, arith}
 use Rattle.box_moves.specs.Moves.{masks_at}
-use Rattle.move_table.specs.Marks.{IsNotedFrom}
-use Rattle.move_table.proofs.MarkLemmas.{answered_mask, below_next}
+use Rattle.move_table.specs.Marks.{IsNoted, IsNotedFrom}
+use Rattle.move_table.proofs.MarkLemmas.{answered_mask, known_next, known_all}
 use Rattle.move_table.proofs.marks.is_noted_at.Goals as goal
 
 pub loop-w-preserved : goal.loop-w-preserved
-loop-w-preserved c mask less =
-    below_next (λ (w : ℕ). IsNotedFrom c.args.net.now c.args.moves.now c.args.b c.args.entry c.args.add c.args.q w)
-    c.loop-w.w c.loop-w.invariant (c.is_noted_from.ensures c.if-not-is_noted_from.false) mask less
+loop-w-preserved c =
+    let found = c.in-Some.ensures in
+    record {
+      noted = known_next (IsNotedFrom c.args.net.now c.args.moves.now c.args.b c.args.effect.now c.args.q)
+          c.args.effect.now.known c.args.effect.now.bits c.loop-w.from c.in-Some.w c.loop-w.invariant.noted found.3
+          (λ contents are answered. subst (IsNoted c.args.net.now c.args.moves.now c.args.b c.args.q c.in-Some.w)
+          c.overwritten.ensures.mask (c.is_noted_from.ensures c.if-not-is_noted_from.false contents are answered));
+      within = let less = found.1 in omega (arith, less);
+    }
 
 pub returns : goal.returns
-returns c holds mask contents are e =
+returns c holds mask has contents are answered =
+    let masks : c.masks_of-masks.result ≡ masks_at c.args.net.now c.args.b = c.masks_of-masks.ensures.masks in
     let small : mask < masks_at c.args.net.now c.args.b =
-    answered_mask c.args.net.now c.args.b c.args.q mask contents e in
-    let past : masks_at c.args.net.now c.args.b ≤ c.loop-w.w =
-    subst (λ (n : ℕ). n ≤ c.loop-w.w) c.masks_of-w-end.ensures c.loop-w-test.false in
-    c.loop-w.invariant mask (omega (arith, small, past)) contents are e
+    answered_mask c.args.net.now c.args.b c.args.q mask contents answered in
+    known_all (IsNotedFrom c.args.net.now c.args.moves.now c.args.b c.args.effect.now c.args.q)
+    c.args.effect.now.known c.args.effect.now.bits c.loop-w.from c.masks_of-masks.result c.loop-w.invariant.noted
+    c.in_default.ensures mask (omega (arith, small, masks)) has contents are answered

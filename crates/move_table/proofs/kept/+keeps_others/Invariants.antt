@@ -1,5 +1,0 @@
-use Rattle.std.proofs.Common.{length}
-use Rattle.move_table.proofs.kept.+keeps_others.Given as goal
-
-abbrev pub decreases-keeps_others : goal.decreases-keeps_others
-decreases-keeps_others l = length l.others.now
