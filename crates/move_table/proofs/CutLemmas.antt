@@ -1,5 +1,5 @@
 -- Effects on some of the queries alone, bit by bit.
-use Rattle.std.proofs.Common.{◌≡◌, ℕ, ◌-◌, ◌^◌, ◌<◌}
+use Rattle.std.proofs.Common.{◌≡◌, ℕ, ◌-◌, ◌^◌, ◌<◌, ◌≤◌}
 use Rattle.std.proofs.Common.{inl, inr, sym, ap, ◌∙◌, arith, bit_and, bit_or, min, max}
 use Rattle.std.specs.Int.{bit_at, bit_not, w16}
 use Rattle.std.proofs.lemmas.Bool.{cases_lt}
@@ -28,6 +28,20 @@ or_not_bit mask known other i small other_small = elim (cases_lt i 16) [
   | inr past ↦ let none : bit_at mask i ≡ 0 = bit_at_above mask 16 i small past in
       omega (arith, none, bit_at_and mask (bit_or known (bit_not w16 other)) i)
 ]
+
+whole_bit : (m k b : ℕ) → m < 2 → k < 2 → b ≡ min m k → min m (max b (1 - k)) ≡ m
+whole_bit m k b lm lk e = omega (arith, lm, lk, e)
+
+-- a mask with the known bits has at most these and all that aren't known
+pub known_last : (mask known bits : ℕ) → mask < 2 ^ 16 → known < 2 ^ 16 → bit_and mask known ≡ bits →
+    mask ≤ bit_or bits (bit_not w16 known)
+known_last mask known bits small fits has =
+    let all : bit_and mask (bit_or bits (bit_not w16 known)) ≡ mask =
+    same_from_bits (bit_and mask (bit_or bits (bit_not w16 known))) mask (λ i.
+    or_not_bit mask bits known i small fits
+    ∙ whole_bit (bit_at mask i) (bit_at known i) (bit_at bits i) (bit_at-lt mask i) (bit_at-lt known i)
+    (ap (λ n. bit_at n i) (sym has) ∙ bit_at_and mask known i)) in
+    omega (arith, all, and_le_r mask (bit_or bits (bit_not w16 known)))
 
 pub overwritten_bit : (mask : ℕ) (effect : Effect) (i : ℕ) → mask < 2 ^ 16 → effect.written < 2 ^ 16 →
     bit_at (overwritten mask effect) i

@@ -99,12 +99,17 @@ pub fn cut(effect: &Effect, fixed: u16) -> Effect
 }
 
 /// The least mask from one on, below another, that has these bits at the queries that are known, if there is one.
-/// Linear in the masks that are passed over, a few instructions each.
+/// Linear in the masks that are passed over, a few instructions each; where all queries are known, in nothing.
 pub fn next_known(known: u16, bits: u16, from: u16, to: u16) -> Option<u16>
     ensures { MatchOption result (HasNoKnown known bits from to)
         (λ w. (from ≤ w) × (w < to) × (bit_and w known ≡ bits) × HasNoKnown known bits from w) }
 {
-    for w in from..to {
+    let first = if from < bits { bits } else { from };
+    let last = bits | !known;
+    for w in first..to {
+        if last < w {
+            return None;
+        }
         if w & known == bits {
             return Some(w);
         }
