@@ -103,6 +103,18 @@ out(left,S,D) :- out(two,S,D), state(b,S,D,1,1).
 """
 
 
+def together(n):
+    return packets(n, False) + """
+out(one,S,D) :- packet(S,D).
+out(two,S,D) :- packet(S,D).
+state(b,S,D,0,0) :- packet(S,D).
+out(right,S,D) :- out(one,S,D).
+writes :- out(one,S,D).
+state(b,S,D,1,1) :- writes, state(b,S,D,X,Y).
+out(left,S,D) :- out(two,S,D), state(b,S,D,1,1).
+"""
+
+
 def queries(n):
     bits = ["B%d" % i for i in range(n)]
     text = "packet(0..%d).\nout(h,P) :- packet(P).\nout(m,P) :- packet(P).\n" % (n - 1)
@@ -143,8 +155,8 @@ state(b,S,D,A,B,C,E) :- state(b,S,D,I,J,K,L), moves(F,S,I,A), moves(F,0,J,B), mo
 """
 
 
-FAMILIES = {f.__name__: f for f in (sample, chain, fabric, wide, double, queries, constants)}
-SHOWN = {"wide": (3, 5), "double": (3, 5), "constants": (3, 7)}
+FAMILIES = {f.__name__: f for f in (sample, chain, fabric, wide, double, together, queries, constants)}
+SHOWN = {"wide": (3, 5), "double": (3, 5), "together": (3, 5), "constants": (3, 7)}
 
 
 def shown(family, n):

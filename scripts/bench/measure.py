@@ -19,8 +19,9 @@ import time
 
 HERE = os.path.dirname(os.path.abspath(__file__))
 TOP = os.path.dirname(os.path.dirname(HERE))
-RUNS = [("sample", 16), ("sample", 31), ("fabric", 5), ("fabric", 7), ("wide", 256), ("double", 256), ("chain", 60),
-        ("queries", 6), ("queries", 8), ("queries", 12), ("constants", 8), ("constants", 16), ("constants", 64)]
+RUNS = [("sample", 16), ("sample", 31), ("fabric", 5), ("fabric", 7), ("wide", 256), ("double", 256),
+        ("together", 256), ("chain", 60), ("queries", 6), ("queries", 8), ("queries", 12), ("constants", 8),
+        ("constants", 16), ("constants", 64)]
 LONGEST_COUNTED = 3
 TIME = "/usr/bin/time"
 

@@ -6,6 +6,7 @@ chain N      N firewalls in a row between two hosts
 fabric N     N zones of a firewall and two hosts each, at a switch
 wide N       four boxes that know senders, over N * N packets
 double N     one box that inserts two tuples of one relation at each of N * N packets
+together N   one box that inserts two constants at once, and asks for both, over N * N packets
 queries N    one box with N queries, all of whose masks are derivable (1 to 12)
 constants N  one box whose guards ask for constants and for fields of the same relation, over N * N packets
 """
@@ -110,6 +111,12 @@ def double(n):
     return text + "box b : register;\nlink one -- b.left;\nlink b.right -- two;\nsends one : true;\nsends two : true;\n"
 
 
+def together(n):
+    text = "network together%d;\n" % n + addresses(n)
+    text += register(["a0", "a1"], "has known(a0) and has known(a1)")
+    return text + "box b : register;\nlink one -- b.left;\nlink b.right -- two;\nsends one : true;\nsends two : true;\n"
+
+
 def queries(n):
     names = ["v%d" % i for i in range(n)]
     text = "network queries%d;\ntype V = {%s};\nfield f : V;\n" % (n, listed(names))
@@ -131,7 +138,7 @@ def constants(n):
     return text + "sends h : true;\nforbid k : src = a0, dst = a1;\n"
 
 
-FAMILIES = {f.__name__: f for f in (sample, chain, fabric, wide, double, queries, constants)}
+FAMILIES = {f.__name__: f for f in (sample, chain, fabric, wide, double, together, queries, constants)}
 
 if __name__ == "__main__":
     if len(sys.argv) != 3 or sys.argv[1] not in FAMILIES:
