@@ -28,7 +28,7 @@ use Rattle.move_table.specs.declared.effect.Effect.{Effect}
 use Rattle.move_table.specs.Effect.{bit_in, is_known, is_set, effect_over, overwritten, cut}
 use Rattle.move_table.specs.Kept.{is_written, leaves, keeps}
 use Rattle.move_table.specs.Laws.{AreLaws}
-use Rattle.move_table.specs.Marks.{AllNoted}
+use Rattle.move_table.specs.Marks.{AllNoted, ReachesOutside}
 use Rattle.move_table.specs.Moves.{Move, Patches}
 use Rattle.move_table.specs.Within.{AreNested, AreChangedWithin, IsChange, IsCovered, IsCoveredBy, IsSharedBy, SharedBefore}
 use Rattle.move_table.proofs.CutLemmas.{overwritten_bit}
@@ -204,14 +204,31 @@ module _ (laws : AreLaws) (plan : Plan) (box packet mask : ℕ) (writes : List W
         ∙ kept_at tuples mask writes laws contents bits site.fixed others i none within (slice_get others i) refl
         ∙ sym (after_bit i)))
 
+    -- a tuple that changes stands nowhere but where it is fixed
+    stays_within : ReachesOutside site.fixed others move.mask move.other → ⊥
+    stays_within there = by (keeps tuples mask writes there.tuple) refl
+      where
+        by : (b : Bool) → keeps tuples mask writes there.tuple ≡ b → ⊥
+        by true kept = there.differ (
+            before_bit there.query
+            ∙ ap (bit_by (holds_entry contents)) there.stands
+            ∙ ap (λ b. cond {A = ℕ} b 1 0) (sym (kept_bit laws contents writes tuples mask bits there.tuple kept))
+            ∙ sym (ap (bit_by (holds_entry (after_writes contents writes))) there.stands)
+            ∙ sym (after_bit there.query))
+        by false changed =
+            let fixed = within there.holds.query there.tuple there.holds.stands changed in
+            omega (arith, fixed, there.holds.is_free)
+
     -- where all was noted of the effect at a site, the moves that it covers are known
     pub covered_known : (moves : List (List Bool)) → AllNoted plan moves box site (cut whole site.fixed) →
         IsKnown plan moves move
     covered_known moves noted =
         elim (noted move.packet member move.mask known contents patches.shown.1 patches.shown.3) [
-          | inl has ↦ inl (subst (λ (b : ℕ). HasMove plan moves b move.packet move.mask move.other) (sym patches.boxed)
+          | inl (inl has) ↦ inl (subst (λ (b : ℕ). HasMove plan moves b move.packet move.mask move.other) (sym patches.boxed)
               (subst (λ (m : ℕ). HasMove plan moves box move.packet move.mask m) result has))
-          | inr same ↦ inr (same ∙ result)
+          | inl (inr same) ↦ inr (same ∙ result)
+          | inr outside ↦ absurd (stays_within
+              (subst (ReachesOutside site.fixed others move.mask) result outside))
         ]
 
 -- the effect is that of the writes between two packets of the plan

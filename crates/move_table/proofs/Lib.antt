@@ -6,4 +6,5 @@ mod KeptLemmas
 mod MarkLemmas
 pub mod NoteLemmas
 pub mod OfferedLemmas
+mod OutsideLemmas
 pub mod WithinLemmas

@@ -16,11 +16,12 @@ use Rattle.net_runs.specs.World.{environment_of}
 use Rattle.packet_state.specs.Answers.{class_of_box, answer_in, answers}
 use Rattle.packet_state.proofs.MaskLemmas.{small_mask}
 use Rattle.box_moves.specs.Moves.{IsSized, HasMove, masks_at}
+use Rattle.query_tables.specs.Tables.{tuples_in}
 use Rattle.query_tables.specs.declared.sites.Site.{Site}
 use Rattle.query_tables.specs.Sites.{Tables, IsMember, IsSiteAt}
 use Rattle.move_table.specs.declared.effect.Effect.{Effect}
 use Rattle.move_table.specs.Effect.{overwritten, cut, between, HasNoKnown}
-use Rattle.move_table.specs.Marks.{IsNoted, AllNoted, AreMarks, IsCut}
+use Rattle.move_table.specs.Marks.{IsNoted, IsNotedWithin, ReachesOutside, AllNoted, AreMarks, IsCut}
 use Rattle.move_table.specs.Moves.{Move, Has}
 use Rattle.move_table.proofs.CutLemmas.{part_known, part_over, part_same}
 
@@ -61,8 +62,9 @@ module _ (plan : Plan) (tables : Tables) where
       AllNoted plan old box site effect → AllNoted plan new box site effect
   all_noted_stays old new stays box site effect noted packet member mask known contents are answered =
       elim (noted packet member mask known contents are answered) [
-        | inl has ↦ inl (stays (record { box = box; packet = packet; mask = mask; other = _ }) has)
-        | inr same ↦ inr same
+        | inl (inl has) ↦ inl (inl (stays (record { box = box; packet = packet; mask = mask; other = _ }) has))
+        | inl (inr same) ↦ inl (inr same)
+        | inr outside ↦ inr outside
       ]
 
   -- marks stay true while moves are added
@@ -123,12 +125,14 @@ module _ (plan : Plan) (tables : Tables) where
       (all (bit_and mask fixed) (omega (arith, below, and_le_l mask fixed))
       (subst (λ (e : Effect). bit_and (bit_and mask fixed) (bit_or e.known (bit_not w16 fixed)) ≡ e.bits) (sym is_cut.1)
       part_has)) in
-      subst (λ (e : Effect). IsNoted plan moves box packet mask (overwritten mask e)) (sym is_cut.1)
+      subst (λ (e : Effect). IsNotedWithin plan moves box fixed e packet mask) (sym is_cut.1)
       (elim noted [
-        | inl mark ↦ subst (λ (n : ℕ). IsNoted plan moves box packet mask n) (part_over whole fixed mask small fits)
+        | inl mark ↦ subst
+            (λ (n : ℕ). IsNoted plan moves box packet mask n ⊎ ReachesOutside fixed (tuples_in plan box packet) mask n)
+            (part_over whole fixed mask small fits)
             (are.noted box number (bit_and mask fixed) (overwritten (bit_and mask fixed) (cut whole fixed)) site at mark
             packet member mask refl contents fit answered)
-        | inr same ↦ inr (part_same whole fixed mask small fits same)
+        | inr same ↦ inl (inr (part_same whole fixed mask small fits same))
       ])
 
 -- in a loop over masks with known bits: all of them so far

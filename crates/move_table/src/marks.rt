@@ -1,5 +1,5 @@
 // Marks for moves that were noted at all packets of a site.
-ghost use Rattle.std.specs.Prelude.{◌≡◌, ◌<◌, ◌≤◌, List, IsTrue};
+ghost use Rattle.std.specs.Prelude.{◌≡◌, ◌<◌, ◌≤◌, ◌↔◌, List, IsTrue};
 ghost use Rattle.box_contents.specs.declared.entry.Entry.{Entry};
 ghost use Rattle.packet_state.specs.Answers.{answers};
 ghost use Rattle.net_plan.specs.Plan.{packets_of, boxes_of};
@@ -8,11 +8,13 @@ ghost use Rattle.box_moves.specs.Moves.{IsKept, IsSized, HasMove, masks_at};
 ghost use Rattle.query_tables.specs.Sites.{IsSite, IsSiteAt};
 ghost use Rattle.move_table.specs.Effect.{between};
 ghost use Rattle.move_table.specs.Marks.{AllNoted, AreMarks, IsCut, IsNoted, IsNotedAt};
+ghost use Rattle.move_table.specs.Marks.{Changes, ReachesOutside, StandsOutside};
 
 use crate::effect::{Effect, next_known, overwritten};
+use box_contents::Entry;
 use box_moves::Moves;
 use net_plan::Network;
-use query_tables::masks::agree;
+use query_tables::masks::{agree, is_same};
 use query_tables::{QueryTables, Site};
 
 /// Whether marks say that all was noted of what the effect makes at the packets of a site. Linear in the masks.
@@ -87,6 +89,7 @@ pub fn mark(
     requires boxed { b < boxes_of net.now }
     requires kept { IsKept net.now b }
     requires at { IsSiteAt tables.now b number site.now }
+    requires is { IsSite net.now b site.now }
     requires sized { IsSized net.now moves.now }
     requires marks { AreMarks net.now tables.now moves.now marks.old }
     ensures { AreMarks net.now tables.now moves.now marks.new }
@@ -127,6 +130,7 @@ fn mark_one(
     requires boxed { b < boxes_of net.now }
     requires kept { IsKept net.now b }
     requires at { IsSiteAt tables.now b number site.now }
+    requires is { IsSite net.now b site.now }
     requires mask { IsMaskOf net.now b w }
     requires sized { IsSized net.now moves.now }
     requires marks { AreMarks net.now tables.now moves.now marks.old }
@@ -144,7 +148,8 @@ fn mark_one(
     }
 }
 
-// Whether all was noted of what makes one mask of the queries that are fixed at a site the other one.
+// Whether all was noted of what makes one mask of the queries that are fixed at a site the other one. A packet at which
+// that would change a query that isn't fixed is asked for nothing.
 fn all_noted(
     net: &Network,
     tables: &QueryTables<'_>,
@@ -159,9 +164,12 @@ fn all_noted(
     requires boxed { b < boxes_of net.now }
     requires kept { IsKept net.now b }
     requires at { IsSiteAt tables.now b number site.now }
+    requires is { IsSite net.now b site.now }
     requires sized { IsSized net.now moves.now }
     ensures { IsTrue result → AllNoted net.now moves.now b site.now (between site.now.fixed w after) }
 {
+    net.sound();
+    let _queries = net.queries(b);
     let effect = Effect {
         written: site.fixed,
         values: after,
@@ -169,11 +177,53 @@ fn all_noted(
         bits: w,
     };
     for q in tables.members(b, number) {
+        if reaches_outside(tables.tuples(b, *q), site.fixed, w, after) {
+            continue;
+        }
         if !is_noted_at(net, tables, b, *q, &effect, moves) {
             return false;
         }
     }
     true
+}
+
+// Whether a tuple that changes where it is fixed stands where it isn't fixed too.
+fn reaches_outside(tuples: &[Entry], fixed: u16, w: u16, after: u16) -> bool
+    ensures { IsTrue result ↔ ReachesOutside fixed tuples.now w after }
+{
+    has_change(tuples, fixed, w, after, tuples, fixed)
+}
+
+// Whether a tuple that changes where it is fixed is one of the others, where it isn't fixed.
+fn has_change(
+    tuples: &[Entry],
+    fixed: u16,
+    w: u16,
+    after: u16,
+    others: &[Entry],
+    queries: u16,
+) -> bool
+    ensures { IsTrue result ↔ Changes (StandsOutside queries others.now) fixed tuples.now w after }
+{
+    match tuples.split_first() {
+        None => false,
+        Some((tuple, rest)) => {
+            (fixed % 2 == 1 && w % 2 != after % 2 && stands_outside(others, queries, *tuple))
+                || has_change(rest, fixed / 2, w / 2, after / 2, others, queries)
+        }
+    }
+}
+
+// Whether the tuple is that of a query that isn't fixed.
+fn stands_outside(tuples: &[Entry], fixed: u16, tuple: Entry) -> bool
+    ensures { IsTrue result ↔ StandsOutside fixed tuples.now tuple }
+{
+    match tuples.split_first() {
+        None => false,
+        Some((other, rest)) => {
+            (fixed % 2 == 0 && is_same(tuple, *other)) || stands_outside(rest, fixed / 2, tuple)
+        }
+    }
 }
 
 // Whether all was noted of what the effect makes at a packet.

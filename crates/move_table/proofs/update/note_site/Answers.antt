@@ -39,6 +39,10 @@ returns-then-is_settled-clause-noted g c =
     c.effect_of-whole.ensures.effect))
     c.args.moves.now (c.is_settled.ensures c.if-is_settled.true) move covered)
 
+pub mark-requires-clause-is : goal.mark-requires-clause-is
+mark-requires-clause-is g c =
+    subst (λ (p : Plan). IsSite p c.args.b c.site-site.result) c.requires.tables c.site-site.ensures.is
+
 pub mark-requires-clause-marks : goal.mark-requires-clause-marks
 mark-requires-clause-marks g c =
     marks_stay c.args.net.now c.args.tables.now c.args.moves.now c.note_members.new.moves c.args.marks.now
