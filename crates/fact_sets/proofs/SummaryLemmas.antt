@@ -21,6 +21,7 @@ use Rattle.plan_text.specs.declared.findings.Findings.{Findings}
 use Rattle.plan_text.specs.Found.{Summarises}
 use Rattle.plan_text.specs.Text.{HasLine, is_out, is_state, is_abort}
 use Rattle.fact_sets.specs.Summary.{IsFactOf, IsBadAmong, AreFindings, AreFindingsBelow, AreAtMost}
+use Rattle.fact_sets.specs.Summary.{IsStateCell, AreStateCells}
 
 none_there : {X : Type 0} (x : X) → Contains [] x → ⊥
 none_there x there = let less : there.0 < 0 = there.1 in absurd (omega arith)
@@ -304,3 +305,30 @@ at_most_more few many findings less most = record {
   aborts = omega (arith, less, most.aborts);
   bad = omega (arith, less, most.bad);
 }
+
+-- the cells from the first answers of boxes up to the first abort
+pub states_between : (plan : Plan) → AreNumbered plan → IsInRange plan (State 0 0 0) → IsInRange plan (Abort 0 0) →
+    AreStateCells plan (cell_of plan (State 0 0 0)) (cell_of plan (Abort 0 0))
+states_between plan numbered first last cell least less = by each.0 each.1 each.2
+  where
+    each : (fact : Fact) × IsInRange plan fact × (cell_of plan fact ≡ cell)
+    each = numbered.each cell
+        (let below : cell_of plan (Abort 0 0) < cells_of plan = numbered.below (Abort 0 0) last in
+        omega (arith, less, below))
+
+    by : (fact : Fact) → IsInRange plan fact → cell_of plan fact ≡ cell → IsStateCell plan cell
+    by (Out end packet) within is =
+        let before : cell_of plan (Out end packet) < cell_of plan (State 0 0 0) =
+        (numbered.order (Out end packet) (State 0 0 0) within first).0 (inl (omega arith)) in
+        absurd (omega (arith, before, is, least))
+    by (State box packet mask) within is =
+        record { box = box; packet = packet; mask = mask; in_range = within; cell_is = is }
+    by (Abort box packet) within is =
+        none ((numbered.order (Abort box packet) (Abort 0 0) within last).1
+        (let before : cell_of plan (Abort box packet) < cell_of plan (Abort 0 0) = omega (arith, is, less) in before))
+      where
+        none : Precedes (Abort box packet) (Abort 0 0) → IsStateCell plan cell
+        none (inl kind) = absurd (omega (arith, kind))
+        none (inr (_, inl one)) = absurd (omega (arith, one))
+        none (inr (_, inr (_, inl one))) = absurd (omega (arith, one))
+        none (inr (_, inr (_, inr (_, nothing)))) = absurd nothing

@@ -4,6 +4,7 @@ use Rattle.std.specs.List.{All, Contains}
 use Rattle.cell_sets.specs.Marks.{HasCell}
 use Rattle.net_plan.specs.declared.plan.Plan.{Plan}
 use Rattle.net_plan.specs.declared.fact.Fact.{Fact}
+use Rattle.net_plan.specs.declared.fact.Fact.TheVariants.{State}
 use Rattle.net_plan.specs.Cells.{IsInRange, cell_of}
 use Rattle.net_plan.specs.Fact.{ListsExactly}
 use Rattle.net_plan.specs.Follows.{IsBad}
@@ -59,3 +60,22 @@ pub record AddsBad (plan : Plan) (fact : Fact) (old new : Findings) : Type 0 whe
 
 abbrev pub Adds : Plan → Fact → Findings → Findings → Type 0
 Adds plan fact old new = AddsGood plan fact old new ⊎ AddsBad plan fact old new
+
+-- a fact of the cell more
+pub record AddsCell (plan : Plan) (cell : ℕ) (old new : Findings) : Type 0 where
+  pub fact : Fact
+  pub in_range : IsInRange plan fact
+  pub cell_is : cell_of plan fact ≡ cell
+  pub adds : Adds plan fact old new
+
+-- the cell is that of answers of a box
+pub record IsStateCell (plan : Plan) (cell : ℕ) : Type 0 where
+  pub box : ℕ
+  pub packet : ℕ
+  pub mask : ℕ
+  pub in_range : IsInRange plan (State box packet mask)
+  pub cell_is : cell_of plan (State box packet mask) ≡ cell
+
+-- and so is each from one up to another, without that one
+abbrev pub AreStateCells : Plan → ℕ → ℕ → Type 0
+AreStateCells plan from to = (cell : ℕ) → from ≤ cell → cell < to → IsStateCell plan cell

@@ -9,17 +9,18 @@ loop-cell-preserved g c =
     let numbered = c.cells_are_facts.ensures plan in
     let next = c.in-Some.ensures in
     let old = c.loop-cell.invariant.found in
+    let added = c.in_ok-add_cell.ensures.adds in
     record {
-      found = elim c.in_ok-add.ensures.adds [
-        | inl good ↦ good_more plan marks numbered c.loop-cell.from c.in-Some.cell c.fact_at.result next.0 next.1 next.2
-            c.fact_at.ensures.in_range c.fact_at.ensures.cell c.loop-cell.findings old c.add.new.findings good.good
+      found = elim added.adds [
+        | inl good ↦ good_more plan marks numbered c.loop-cell.from c.in-Some.cell added.fact next.0 next.1 next.2
+            added.in_range added.cell_is c.loop-cell.findings old c.add_cell.new.findings good.good
             (good.summarises old.facts old.bad old.summarises) good.listed
-        | inr bad ↦ bad_more plan marks numbered c.loop-cell.from c.in-Some.cell c.fact_at.result next.0 next.1 next.2
-            c.fact_at.ensures.in_range c.fact_at.ensures.cell c.loop-cell.findings old c.add.new.findings bad.bad
+        | inr bad ↦ bad_more plan marks numbered c.loop-cell.from c.in-Some.cell added.fact next.0 next.1 next.2
+            added.in_range added.cell_is c.loop-cell.findings old c.add_cell.new.findings bad.bad
             (bad.summarises old.facts old.bad old.summarises) bad.lines
       ];
-      few = at_most_more (c.loop-cell.from + 1) (c.in-Some.cell + 1) c.add.new.findings
+      few = at_most_more (c.loop-cell.from + 1) (c.in-Some.cell + 1) c.add_cell.new.findings
           (let less : c.loop-cell.from ≤ c.in-Some.cell = next.0 in omega (arith, less))
-          (c.in_ok-add.ensures.few c.loop-cell.from c.loop-cell.invariant.few);
+          (c.in_ok-add_cell.ensures.few c.loop-cell.from c.loop-cell.invariant.few);
       within = let less : c.in-Some.cell < length marks = next.1.0 in omega (arith, less);
     }
