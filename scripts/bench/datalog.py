@@ -32,6 +32,14 @@ state(switch,S,D,K) :- packet(S,D,K).
 out(port(switch,D),S,D,K) :- link(E,port(switch,_)), out(E,S,D,K), D < ports.
 """
 
+REGISTER = """
+out(one,S,D) :- packet(S,D).
+out(two,S,D) :- packet(S,D).
+state(b,S,D,0,0) :- packet(S,D).
+out(right,S,D) :- out(one,S,D).
+out(left,S,D) :- out(two,S,D), state(b,S,D,1,1).
+"""
+
 LINKS = """
 link(Y,X) :- link(X,Y).
 """
@@ -89,29 +97,19 @@ out(port(B,left),S,D) :- box(B), link(E,port(B,right)), out(E,S,D), state(B,S,D,
 
 
 def double(n):
-    return packets(n, False) + """
-out(one,S,D) :- packet(S,D).
-out(two,S,D) :- packet(S,D).
-state(b,S,D,0,0) :- packet(S,D).
-out(right,S,D) :- out(one,S,D).
+    return packets(n, False) + REGISTER + """
 writes(S,D) :- out(one,S,D).
 writes(D,S) :- out(one,S,D).
 state(b,S,D,1,Y) :- writes(S,X), state(b,S,D,0,Y), X != D, S != D.
 state(b,S,D,Y,1) :- writes(D,X), state(b,S,D,Y,0), X != S, S != D.
 state(b,S,D,1,1) :- writes(S,D), state(b,S,D,X,Y).
-out(left,S,D) :- out(two,S,D), state(b,S,D,1,1).
 """
 
 
 def together(n):
-    return packets(n, False) + """
-out(one,S,D) :- packet(S,D).
-out(two,S,D) :- packet(S,D).
-state(b,S,D,0,0) :- packet(S,D).
-out(right,S,D) :- out(one,S,D).
+    return packets(n, False) + REGISTER + """
 writes :- out(one,S,D).
 state(b,S,D,1,1) :- writes, state(b,S,D,X,Y).
-out(left,S,D) :- out(two,S,D), state(b,S,D,1,1).
 """
 
 

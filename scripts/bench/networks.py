@@ -105,16 +105,17 @@ def wide(n):
     return text + "link b3.right -- two;\nsends one : true;\nsends two : true;\nforbid one : src = a0, dst = a0;\n"
 
 
-def double(n):
-    text = "network double%d;\n" % n + addresses(n)
-    text += register(["src", "dst"], "has known(src) and has known(dst)")
+def one_register(name, n, inserted, guard):
+    text = "network %s%d;\n" % (name, n) + addresses(n) + register(inserted, guard)
     return text + "box b : register;\nlink one -- b.left;\nlink b.right -- two;\nsends one : true;\nsends two : true;\n"
+
+
+def double(n):
+    return one_register("double", n, ["src", "dst"], "has known(src) and has known(dst)")
 
 
 def together(n):
-    text = "network together%d;\n" % n + addresses(n)
-    text += register(["a0", "a1"], "has known(a0) and has known(a1)")
-    return text + "box b : register;\nlink one -- b.left;\nlink b.right -- two;\nsends one : true;\nsends two : true;\n"
+    return one_register("together", n, ["a0", "a1"], "has known(a0) and has known(a1)")
 
 
 def queries(n):
